@@ -11,9 +11,9 @@ use Rattle.theory.specs.Index.{bit}
 use Rattle.theory.specs.Modular.{subMod, differ}
 use Rattle.theory.specs.Code.{linear, symbolAt, codeword}
 use Rattle.theory.specs.Near.{distance, Near, leeDistance}
-use Rattle.theory.proofs.SumLaws.{sum-ext, sum-le, sum-first, tabulate-length, tabulate-at, tabulate-is}
+use Rattle.theory.proofs.SumLaws.{sum-ext, sum-le, sum-bound, sum-first, tabulate-length, tabulate-at, tabulate-is}
 use Rattle.theory.proofs.IndexLaws.{bit-zero, bit-suc, bit-low}
-use Rattle.theory.proofs.ModularLaws.{differ-le-lee}
+use Rattle.theory.proofs.ModularLaws.{differ-le, differ-le-lee}
 
 -- the coefficient of bit 0, and those of the bits above
 linear-first : (m : ℕ) (c : ℕ → ℕ) (i : ℕ) → linear (suc m) c i ≡ c 0 * (i % 2) + linear m (λ k. c (suc k)) (i / 2)
@@ -72,6 +72,10 @@ codeword-is q m t w e h = tabulate-is (2 ^ m) _ w e h
 pub distance-ext : (q m : ℕ) (s t y z : ℕ → ℕ) → ((k : ℕ) → k < suc m → s k ≡ t k) → ((i : ℕ) → i < 2 ^ m → y i ≡ z i) → distance q m s y ≡ distance q m t z
 unfolding distance
 distance-ext q m s t y z h g = sum-ext (2 ^ m) _ _ (λ i l. ap₂ differ (symbolAt-ext q m s t h i) (g i l))
+
+pub distance-le : (q m : ℕ) (s y : ℕ → ℕ) → distance q m s y ≤ 2 ^ m
+unfolding distance
+distance-le q m s y = omega (arith, sum-bound (2 ^ m) 1 _ (λ i l. differ-le (symbolAt q m s i) (y i)))
 
 -- the distance is at most the Lee weight of the difference
 pub distance-le-lee : (q m : ℕ) (s y : ℕ → ℕ) → 0 < q → ((i : ℕ) → i < 2 ^ m → y i < q) → distance q m s y ≤ leeDistance q m s y

@@ -92,15 +92,15 @@ nthClear k j = j + j / 2 ^ k * 2 ^ k
 high-part : (k j l : ℕ) → j / 2 ≡ l → j / 2 ^ suc k * 2 ^ suc k ≡ 2 * (l / 2 ^ k * 2 ^ k)
 high-part k j l e = rw (pow-succ' 2 k, ← div-div-eq-div-mul, e) (mul-left-comm (l / 2 ^ k) 2 (2 ^ k))
 
-nth-zero : (j : ℕ) → nthClear 0 j ≡ 2 * j
+pub nth-zero : (j : ℕ) → nthClear 0 j ≡ 2 * j
 unfolding nthClear
 nth-zero j = rw (div-one, mul-one) (omega arith)
 
-nth-even : (k l : ℕ) → nthClear (suc k) (2 * l) ≡ 2 * nthClear k l
+pub nth-even : (k l : ℕ) → nthClear (suc k) (2 * l) ≡ 2 * nthClear k l
 unfolding nthClear
 nth-even k l = omega (arith, high-part k (2 * l) l (omega arith))
 
-nth-odd : (k l : ℕ) → nthClear (suc k) (suc (2 * l)) ≡ suc (2 * nthClear k l)
+pub nth-odd : (k l : ℕ) → nthClear (suc k) (suc (2 * l)) ≡ suc (2 * nthClear k l)
 unfolding nthClear
 nth-odd k l = omega (arith, high-part k (suc (2 * l)) l (omega arith))
 

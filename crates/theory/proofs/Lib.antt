@@ -7,3 +7,5 @@ pub mod VoteLaws
 pub mod WinnerLaws
 pub mod MarginLaws
 pub mod NearestLaws
+pub mod QuestionLaws
+pub mod TurnLaws

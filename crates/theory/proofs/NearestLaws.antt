@@ -13,9 +13,9 @@ use borrow.Author.Tests.{ltb-true, ltb-false, lt-ltb}
 use Rattle.theory.specs.Sum.{at}
 use Rattle.theory.specs.Code.{Symbols}
 use Rattle.theory.specs.Near.{distance, Near}
-use Rattle.theory.specs.Margin.{margin}
-use Rattle.theory.specs.Nearest.{prefixed, messages, firstOr, find, isNear, nearest, isReadable, nearMessage, nearDistance, nearMargin}
-use Rattle.theory.proofs.WinnerLaws.{Below, Winners, near-wins, winners-near}
+use Rattle.theory.specs.Vote.{Winners}
+use Rattle.theory.specs.Nearest.{prefixed, messages, firstOr, find, isNear, nearest, isReadable, nearMessage}
+use Rattle.theory.proofs.WinnerLaws.{near-wins, winners-near}
 
 none≢some : (t : List ℕ) → none ≡ some t → ⊥
 none≢some t e = let z : _≡_ {A = ℕ} 0 1 = cc in omega arith
@@ -106,9 +106,6 @@ decided q l passes t y only = go (find passes (messages q l)) refl (passes t) re
         let x = only s (messages-sound q l s i) a in
         ap some x ∙ ap (λ c. firstOr c t none) (sym (ap passes (sym x) ∙ a) ∙ p)
 
-pub below : (q m : ℕ) (t : List ℕ) → Symbols q (suc m) t → Below q m (at t)
-below q m t y = y .below
-
 pub isNear-true : (q m : ℕ) (y t : List ℕ) → isNear q m y t ≡ true → Near q m (at t) (at y)
 unfolding isNear
 isNear-true q m y t e = ltb-true _ _ e
@@ -122,8 +119,8 @@ pub winners-decide : (q m : ℕ) → 0 < q → (y t : List ℕ) → Symbols q (s
 unfolding nearest
 winners-decide q m hq y t h w =
     decided q (suc m) (isNear q m y) t h (λ s k e.
-      ext-getD 0 s t (omega (arith, k .size, h .size))
-      (λ i l. winners-near q m hq (at s) (k .below) (at y) (at t) (h .below) (isNear-true q m y s e) w i (omega (arith, k .size))))
+    ext-getD 0 s t (omega (arith, k .size, h .size))
+    (λ i l. winners-near q m hq (at s) (k .below) (at y) (at t) (h .below) (isNear-true q m y s e) w i (omega (arith, k .size))))
 
 -- FOUND EXACTLY IF NEAR
 pub near-found : (q m : ℕ) → 0 < q → (y t : List ℕ) → Symbols q (suc m) t → Near q m (at t) (at y) → nearest q m y ≡ some t
@@ -143,3 +140,31 @@ none-near q m y e t h n =
     let p : isNear q m y t ≡ false = find-none (isNear q m y) (messages q (suc m)) e t (messages-complete q (suc m) t h) in
     let z : true ≡ false = sym (near-true q m y t n) ∙ p in
     let x : _≡_ {A = ℕ} 0 1 = cc in omega arith
+
+-- what the reading gives where a message is found, and where none is
+pub readable : (q m : ℕ) (y t : List ℕ) → nearest q m y ≡ some t → (isReadable q m y ≡ true) × (nearMessage q m y ≡ t)
+unfolding isReadable nearMessage
+readable q m y t e = (rw e, rw e)
+
+pub unreadable : (q m : ℕ) (y : List ℕ) → nearest q m y ≡ none → isReadable q m y ≡ false
+unfolding isReadable
+unreadable q m y e = rw e
+
+-- THE READER'S LAW: winners t of all votes are what the word reads as if they are near, and else it is doubtful
+pub record Reads (q m : ℕ) (y t : List ℕ) : Type 0 where
+  pub near : Near q m (at t) (at y) → (isReadable q m y ≡ true) × (nearMessage q m y ≡ t)
+  pub far : (Near q m (at t) (at y) → ⊥) → isReadable q m y ≡ false
+
+pub winners-read : (q m : ℕ) → 0 < q → (y t : List ℕ) → Symbols q (suc m) t → Winners q m (at t) (at y) → Reads q m y t
+unfolding firstOr
+winners-read q m hq y t h w = record {
+  near = λ n. readable q m y t (near-found q m hq y t h n);
+  far = λ d. unreadable q m y (winners-decide q m hq y t h w ∙ ap (λ b. firstOr b t none) (far d));
+}
+  where
+    far : (Near q m (at t) (at y) → ⊥) → isNear q m y t ≡ false
+    far d = go (isNear q m y t) refl
+      where
+        go : (b : Bool) → isNear q m y t ≡ b → b ≡ false
+        go true e = absurd (d (isNear-true q m y t e))
+        go false e = refl

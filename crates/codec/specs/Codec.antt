@@ -1,0 +1,71 @@
+-- What encode and decode answer and leave, for every input (document 01: Write and Read).
+use Prim.Native.Nat.{ℕ}
+use mathlib.Core.List.{List, [], _∷_}
+use Rattle.theory.specs.Code.{codeword}
+use Rattle.theory.specs.Nearest.{isReadable, nearMessage, nearDistance, nearMargin}
+use Rattle.theory.specs.Question.{ask, isAlphabet, isOrder, isMessageSize, isWordSize, allBelow, Answer, accepted, refused, answer, after}
+use Rattle.codec.specs.declared.Reading.{Reading}
+use Rattle.codec.specs.declared.Encoded.{Encoded}
+use Rattle.codec.specs.declared.Encoded.the-variants as E
+use Rattle.codec.specs.declared.Decoded.{Decoded}
+use Rattle.codec.specs.declared.Decoded.the-variants as D
+
+-- both calls ask 1, 2, 5 first
+unfoldable pub sizeRefusal : ℕ → ℕ → List ℕ → ℕ
+sizeRefusal q m message = ask (isAlphabet q) 1 (ask (isOrder m) 2 (ask (isMessageSize m message) 5 0))
+
+-- Write asks 1, 2, 5, 6, 7
+unfoldable pub encodeRefusal : ℕ → ℕ → List ℕ → List ℕ → ℕ
+encodeRefusal q m message word =
+    ask (isAlphabet q) 1
+    (ask (isOrder m) 2
+    (ask (isMessageSize m message) 5
+    (ask (allBelow q message) 6
+    (ask (isWordSize m word) 7
+    0))))
+
+-- Write answers no values
+unfoldable pub encodeAnswer : ℕ → ℕ → List ℕ → List ℕ → Answer
+encodeAnswer q m message word = answer (encodeRefusal q m message word) []
+
+-- the word slice after Write
+unfoldable pub encodeWord : ℕ → ℕ → List ℕ → List ℕ → List ℕ
+encodeWord q m message word = after (encodeRefusal q m message word) (codeword q m message) word
+
+-- Read asks 1, 2, 5, 7, 8 before it reads the word
+unfoldable pub wordRefusal : ℕ → ℕ → List ℕ → List ℕ → ℕ
+wordRefusal q m message word =
+    ask (isAlphabet q) 1
+    (ask (isOrder m) 2
+    (ask (isMessageSize m message) 5
+    (ask (isWordSize m word) 7
+    (ask (allBelow q word) 8
+    0))))
+
+-- Read asks 1, 2, 5, 7, 8, 9
+unfoldable pub decodeRefusal : ℕ → ℕ → List ℕ → List ℕ → ℕ
+decodeRefusal q m message word =
+    ask (isAlphabet q) 1
+    (ask (isOrder m) 2
+    (ask (isMessageSize m message) 5
+    (ask (isWordSize m word) 7
+    (ask (allBelow q word) 8
+    (ask (isReadable q m word) 9
+    0)))))
+
+-- Read answers wrong and margin
+unfoldable pub decodeAnswer : ℕ → ℕ → List ℕ → List ℕ → Answer
+decodeAnswer q m message word = answer (decodeRefusal q m message word) (nearDistance q m word ∷ nearMargin q m word ∷ [])
+
+-- the message slice after Read
+unfoldable pub decodeMessage : ℕ → ℕ → List ℕ → List ℕ → List ℕ
+decodeMessage q m message word = after (decodeRefusal q m message word) (nearMessage q m word) message
+
+-- the paper's number and values for each case of the enums
+unfoldable pub encoded : Encoded → Answer
+encoded E.Written = accepted []
+encoded (E.Refused number) = refused number
+
+unfoldable pub decoded : Decoded → Answer
+decoded (D.Read reading) = accepted (reading .wrong ∷ reading .margin ∷ [])
+decoded (D.Refused number) = refused number

@@ -1,0 +1,27 @@
+-- What the writer of a codeword asks for and leaves.
+use Prim.Native.Nat.{ℕ, suc, _^_, _+_, _≤_, _<_, _%_}
+use mathlib.Core.Path.{_≡_}
+use mathlib.Core.List.{List}
+use lib.ListN.{length}
+use Rattle.theory.specs.Sum.{at}
+use Rattle.theory.specs.Code.{symbolAt}
+use mathlib.Core.Bool.{true}
+use Rattle.theory.specs.Question.{isAlphabet}
+
+-- a message whose word fits the buffer
+pub record Fits (q m : ℕ) (s w : List ℕ) : Type 0 where
+  pub alphabet : isAlphabet q ≡ true
+  pub order : m ≤ 8
+  pub size : m < length s
+  pub below : (k : ℕ) → k < suc m → at s k < q
+  pub room : 2 ^ m ≤ length w
+
+-- the first 2 ^ m places of w hold the word of s
+pub record Coded (q m : ℕ) (s w : List ℕ) : Type 0 where
+  pub each : (i : ℕ) → i < 2 ^ m → at w i ≡ symbolAt q m (at s) i
+
+-- the places from len on up to len + i hold those below with a added, and those below len are as in w
+pub record Doubled (q len a : ℕ) (w v : List ℕ) (i : ℕ) : Type 0 where
+  pub size : length v ≡ length w
+  pub low : (j : ℕ) → j < len → at v j ≡ at w j
+  pub high : (j : ℕ) → j < i → at v (j + len) ≡ (at w j + a) % q

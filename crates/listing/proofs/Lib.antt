@@ -1,0 +1,3 @@
+pub mod TextLaws
+pub mod SlotLaws
+pub mod OverLaws

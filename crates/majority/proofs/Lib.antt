@@ -1,0 +1,3 @@
+pub mod RaceLaws
+pub mod ConstantLaws
+pub mod StandingLaws

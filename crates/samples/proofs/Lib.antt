@@ -1,0 +1,4 @@
+-- Laws of specs/.
+pub mod FoldLaws
+pub mod SumsLaws
+pub mod DecisionLaws

@@ -1,0 +1,23 @@
+-- The limits of a session, and its opening.
+use Prim.Native.Nat.{ℕ, _*_}
+use mathlib.Core.List.{[]}
+use Rattle.theory.specs.Question.{ask, isAlphabet, isOrder, Answer, answer}
+
+-- how many slots a session has at most
+abbrev pub slots : ℕ
+slots = 65536
+
+-- the time of slot j in ms
+unfoldable pub slotTime : ℕ → ℕ
+slotTime j = j * 1024
+
+-- Open asks 1, 2
+unfoldable pub openRefusal : ℕ → ℕ → ℕ
+openRefusal q m =
+    ask (isAlphabet q) 1
+    (ask (isOrder m) 2
+    0)
+
+-- Open answers no values, only a session
+unfoldable pub openAnswer : ℕ → ℕ → Answer
+openAnswer q m = answer (openRefusal q m) []

@@ -1,0 +1,159 @@
+// Soft samples for q = 4: one soft vote, and the soft read.
+use decisions::SoftVote;
+ghost use mathlib.Core.Path.{_≡_};
+ghost use mathlib.Core.Bool.{true, _&&_};
+ghost use Prim.Native.Nat.{suc, _≤_};
+ghost use lib.ListN.{length, getD, take};
+ghost use Rattle.samples.specs.Numbers.{f32};
+ghost use Rattle.samples.specs.Soft.{inRange, allInRange, voteRefusal, softVote, readAnswer, readMessage};
+ghost use Rattle.sums.specs.Work.{Samples};
+ghost use Rattle.decisions.specs.Voted.{voted};
+ghost use Rattle.soft.specs.Answers.{softAnswered};
+ghost use Rattle.soft.specs.Work.{sliceRefusal, sampleRefusal, sureTo, Found, constantDecision};
+
+// What the soft read answers.
+pub enum SoftRead {
+    Read,
+    Refused(u32),
+}
+
+// Question 10 for one part: both tests have a no for not-a-number.
+fn in_range(x: f32) -> bool
+    ensures { λ r. ⌜ r ≡ inRange f32 x ⌝ }
+{
+    (-127.0 <= x) & (x <= 127.0)
+}
+
+// Question 10 for a slice. No early exit: a refused slice is rare, and a test and a branch at each part cost more.
+fn all_in_range(x: &[f32]) -> bool
+    ensures { λ r. ⌜ r ≡ allInRange f32 (now (x .entry)) ⌝ }
+{
+    let mut all = true;
+    for i in 0..x.len() {
+        all = all & in_range(sums::part(x, i));
+    }
+    all
+}
+
+// Question 10.
+fn both_in_range(re: &[f32], im: &[f32]) -> bool
+    ensures { λ r. ⌜ r ≡ (allInRange f32 (now (re .entry)) && allInRange f32 (now (im .entry))) ⌝ }
+{
+    all_in_range(re) & all_in_range(im)
+}
+
+// Questions 7 and 10.
+fn slice_refusal(m: u32, re: &[f32], im: &[f32]) -> u32
+    requires { ⌜ m ≤ 8 ⌝ }
+    ensures { λ r. ⌜ r ≡ sliceRefusal m (now (re .entry)) (now (im .entry)) ⌝ }
+{
+    let n = questions::pow2(m);
+    if re.len() != n {
+        return 7;
+    }
+    if im.len() != n {
+        return 7;
+    }
+    if !both_in_range(re, im) {
+        return 10;
+    }
+    0
+}
+
+// The questions of one soft vote.
+fn vote_refusal(m: u32, k: u32, re: &[f32], im: &[f32]) -> u32
+    ensures { λ r. ⌜ r ≡ voteRefusal f32 m k (now (re .entry)) (now (im .entry)) ⌝ }
+{
+    if !questions::is_order(m) {
+        return 2;
+    }
+    let number = slice_refusal(m, re, im);
+    if number != 0 {
+        return number;
+    }
+    if m <= k {
+        return 12;
+    }
+    0
+}
+
+// One soft vote for coefficient k.
+pub fn soft_vote(m: u32, k: u32, re: &[f32], im: &[f32]) -> SoftVote
+    ensures { λ r. ⌜ voted r ≡ softVote f32 m k (now (re .entry)) (now (im .entry)) ⌝ }
+{
+    let number = vote_refusal(m, k, re, im);
+    if number != 0 {
+        return SoftVote::Refused(number);
+    }
+    decisions::decision(sums::vote_sums(m, k, re, im))
+}
+
+// Every coefficient's symbol, put into found from place 1 on; false where one is unsure.
+fn coefficients(m: u32, re: &[f32], im: &[f32], found: &mut [u8]) -> bool
+    requires { ⌜ Samples m (now re) (now im) × (length (now found) ≡ 9) ⌝ }
+    ensures { λ r. ⌜ (r ≡ sureTo m (now (re .entry)) (now (im .entry)) m) × (r ≡ true → Found m (now (re .entry)) (now (im .entry)) m (now (found .exit))) ⌝ }
+{
+    for k in 0..m {
+        let vote = decisions::decision(sums::vote_sums(m, k, re, im));
+        if !decisions::is_sure(vote) {
+            return false;
+        }
+        found[k as usize + 1] = decisions::symbol_of(vote);
+    }
+    true
+}
+
+// The decision for the constant, by the coefficients in found.
+fn constant(m: u32, found: &[u8], re: &[f32], im: &[f32]) -> SoftVote
+    requires { ⌜ Samples m (now re) (now im) × Found m (now re) (now im) m (now found) ⌝ }
+    ensures { λ r. ⌜ voted r ≡ constantDecision m (now (re .entry)) (now (im .entry)) ⌝ }
+{
+    let mut turns = [0u8; 256];
+    sums::quarter_turns(m, found, &mut turns);
+    decisions::decision(sums::constant_sums(m, found, &turns, re, im))
+}
+
+// The questions of the soft read up to 10, for a message slice of so many symbols.
+fn sample_refusal(m: u32, size: usize, re: &[f32], im: &[f32]) -> u32
+    ensures { λ r. ⌜ r ≡ sampleRefusal m size (now (re .entry)) (now (im .entry)) ⌝ }
+{
+    if !questions::is_order(m) {
+        return 2;
+    }
+    if size != m as usize + 1 {
+        return 5;
+    }
+    slice_refusal(m, re, im)
+}
+
+// The first symbols of found, as many as the message has.
+fn copy(found: &[u8], message: &mut [u8])
+    requires { ⌜ length (now message) ≤ length (now found) ⌝ }
+    ensures { λ _. ⌜ now (message .exit) ≡ take (length (now (message .entry))) (now (found .entry)) ⌝ }
+{
+    for i in 0..message.len() {
+        message[i] = found[i];
+    }
+}
+
+// The soft read. The message is written only after the last decision.
+pub fn soft_read(m: u32, message: &mut [u8], re: &[f32], im: &[f32]) -> SoftRead
+    ensures { λ r. ⌜ softAnswered r ≡ readAnswer f32 m (now (message .entry)) (now (re .entry)) (now (im .entry)) ⌝
+        ∗ ⌜ now (message .exit) ≡ readMessage f32 m (now (message .entry)) (now (re .entry)) (now (im .entry)) ⌝ }
+{
+    let number = sample_refusal(m, message.len(), re, im);
+    if number != 0 {
+        return SoftRead::Refused(number);
+    }
+    let mut found = [0u8; 9];
+    if !coefficients(m, re, im, &mut found) {
+        return SoftRead::Refused(11);
+    }
+    let last = constant(m, &found, re, im);
+    if !decisions::is_sure(last) {
+        return SoftRead::Refused(11);
+    }
+    found[0] = decisions::symbol_of(last);
+    copy(&found, message);
+    SoftRead::Read
+}

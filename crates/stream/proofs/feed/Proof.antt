@@ -1,0 +1,121 @@
+-- `feed` meets its contract. The loop's invariant: the bytes passed are listed.
+use Prim.Native.Nat.{_≤_, _-_}
+use mathlib.Core.Path.{_≡_, refl, sym, _∙_}
+use mathlib.Core.Logic.{inl, inr}
+use native.Mathlib.Nat.{zero-add}
+use native.Mathlib.Omega.{arith}
+use lib.ListN.{length, take}
+use Rattle.stream.specs.Stream.{progress, Fit}
+use Rattle.stream.proofs.ByteLaws.{Run, run-none, run-next}
+use borrow.Author.Needs.{needs}
+use Rattle.stream.proofs.feed.Statement.{statement}
+use Rattle.stream.proofs.feed.Tie as tie
+
+abbrev Inv-loop : tie.InvT-loop
+Inv-loop line₀ chunk out₀ state₀ read₀ written₀ line out state read written =
+    (read ≤ length chunk) × Fit state line × Run (progress state₀ line₀) out₀ (take read chunk) (progress state line) written out
+
+abbrev μ-loop : tie.MeasureT-loop
+μ-loop line₀ chunk out₀ state₀ read₀ written₀ line out state read written = length chunk - read
+
+loop-holds : tie.Need-loop-holds Inv-loop μ-loop
+loop-holds c =
+    let s = c .before .before .before in
+    (omega arith, s .pre, run-none _ _)
+
+same-length : tie.Need-same-length Inv-loop μ-loop
+same-length c =
+    let l = c .before .before in
+    l .loop .inv .1 .size ∙ sym (l .before .before .before .before .pre .size)
+
+same-length-2 : tie.Need-same-length-2 Inv-loop μ-loop
+same-length-2 c = let l = c .before .before in l .loop .inv .2 .size
+
+returns : tie.Need-returns Inv-loop μ-loop
+returns c =
+    let l = c .before .before in
+    let r = l .loop .inv .2 in
+    (r .state, (r .text .place ∙ zero-add _, (r .text .buffer, (inr (inl (c .if1 .taken)), ((l .loop .inv .0, omega (arith, r .room, r .size)), l .loop .inv .1)))))
+
+sub-if2 : tie.Need-sub-if2 Inv-loop μ-loop
+sub-if2 c = let r = c .before .before .loop .inv .2 in omega (arith, r .room, r .size)
+
+same-length-3 : tie.Need-same-length-3 Inv-loop μ-loop
+same-length-3 c =
+    let l = c .before .before .before in
+    l .loop .inv .1 .size ∙ sym (l .before .before .before .before .pre .size)
+
+same-length-4 : tie.Need-same-length-4 Inv-loop μ-loop
+same-length-4 c = let l = c .before .before .before in l .loop .inv .2 .size
+
+returns-2 : tie.Need-returns-2 Inv-loop μ-loop
+returns-2 c =
+    let l = c .before .before .before in
+    let r = l .loop .inv .2 in
+    (r .state, (r .text .place ∙ zero-add _, (r .text .buffer, (inr (inr (omega (arith, c .if2 .taken, r .size, r .room))), ((l .loop .inv .0, omega (arith, r .room, r .size)), l .loop .inv .1)))))
+
+shared-slice-read-read-byte : tie.Need-shared-slice-read-read-byte Inv-loop μ-loop
+shared-slice-read-read-byte c = omega arith
+
+read-byte-requires : tie.Need-read-byte-requires Inv-loop μ-loop
+read-byte-requires c κs =
+    let e = c .before .before .before in
+    let l = e .before .before .before in
+    let r = l .loop .inv .2 in
+    (l .loop .inv .1, e .before .if1 .left, omega (arith, e .if2 .left, r .room, r .size))
+
+add-read : tie.Need-add-read Inv-loop μ-loop
+add-read c = omega arith
+
+loop-less : tie.Need-loop-less Inv-loop μ-loop
+loop-less c = omega arith
+
+loop-again : tie.Need-loop-again Inv-loop μ-loop
+loop-again c =
+    let d = c .before .before .before .before .before in
+    let l = d .before .before .before .before .before .before .before in
+    let s = l .before .before .before .before in
+    let inside = d .before .before .before .before .before .before .loop-test .taken in
+    let e = d .read-byte .ensures in (
+      omega (arith, inside),
+      e .1 .1 .1,
+      run-next _ (s .args .out .now) (s .args .chunk .now) (l .loop .read) (omega (arith, inside)) _ _ _ _ _ _ (l .loop .inv .2) (e .0)
+          (record { place = e .1 .0; buffer = e .1 .1 .0 }) (d .read-byte .kept .1 .1 .1 .0),
+    )
+
+same-length-5 : tie.Need-same-length-5 Inv-loop μ-loop
+same-length-5 c =
+    let l = c .before in
+    l .loop .inv .1 .size ∙ sym (l .before .before .before .before .pre .size)
+
+same-length-6 : tie.Need-same-length-6 Inv-loop μ-loop
+same-length-6 c = let l = c .before in l .loop .inv .2 .size
+
+returns-3 : tie.Need-returns-3 Inv-loop μ-loop
+returns-3 c =
+    let l = c .before in
+    let r = l .loop .inv .2 in
+    (r .state, (r .text .place ∙ zero-add _, (r .text .buffer, (inl (omega (arith, l .loop .inv .0, c .loop-test .left)), ((l .loop .inv .0, omega (arith, r .room, r .size)), l .loop .inv .1)))))
+
+pub feed-spec : {M : Type 1} → statement M
+feed-spec =
+    tie.close
+    (tie.spec
+    Inv-loop
+    μ-loop
+    loop-holds
+    same-length
+    same-length-2
+    returns
+    sub-if2
+    same-length-3
+    same-length-4
+    returns-2
+    shared-slice-read-read-byte
+    read-byte-requires
+    add-read
+    loop-less
+    loop-again
+    same-length-5
+    same-length-6
+    returns-3)

@@ -1,0 +1,154 @@
+//! The exported functions of the proved code, each behind a safe wrapper that passes its slices on as pointer and
+//! length, and checks nothing. Every wrapper answers for every input.
+
+mod raw {
+    #[link(name = "compare_c", kind = "static")]
+    extern "C" {
+        pub fn compare_encode(
+            q: u32,
+            m: u32,
+            message: *const u8,
+            message_len: usize,
+            word: *mut u8,
+            word_len: usize,
+        ) -> u64;
+        pub fn compare_decode(
+            q: u32,
+            m: u32,
+            message: *mut u8,
+            message_len: usize,
+            word: *const u8,
+            word_len: usize,
+        ) -> u64;
+    }
+
+    #[link(name = "rm_c", kind = "static")]
+    extern "C" {
+        pub fn rm_write(q: u32, m: u32, message: *const u8, message_len: usize, word: *mut u8, word_len: usize) -> u32;
+        pub fn rm_read(q: u32, m: u32, message: *mut u8, message_len: usize, word: *const u8, word_len: usize) -> u32;
+    }
+
+    #[link(name = "compare_session_c", kind = "static")]
+    extern "C" {
+        pub fn compare_open_sender(q: u32, m: u32, session: *mut u32, session_len: usize) -> u32;
+        pub fn compare_open_receiver(q: u32, m: u32, session: *mut u32, session_len: usize) -> u32;
+        pub fn compare_send(
+            session: *mut u32,
+            session_len: usize,
+            message: *const u8,
+            message_len: usize,
+            word: *mut u8,
+            word_len: usize,
+        ) -> u32;
+        pub fn compare_receive(
+            session: *mut u32,
+            session_len: usize,
+            delivery: *mut u32,
+            delivery_len: usize,
+            message: *mut u8,
+            message_len: usize,
+            word: *const u8,
+            word_len: usize,
+        ) -> u32;
+        pub fn compare_miss(session: *mut u32, session_len: usize) -> u32;
+    }
+
+    #[link(name = "compare_soft_c", kind = "static")]
+    extern "C" {
+        pub fn compare_soft_vote(
+            m: u32,
+            k: u32,
+            re: *const f32,
+            re_len: usize,
+            im: *const f32,
+            im_len: usize,
+            sums: *mut f32,
+            sums_len: usize,
+        ) -> u32;
+        pub fn compare_soft_read(
+            m: u32,
+            message: *mut u8,
+            message_len: usize,
+            re: *const f32,
+            re_len: usize,
+            im: *const f32,
+            im_len: usize,
+        ) -> u32;
+    }
+}
+
+/// The refusal number, or 1,000,000 for a word written.
+pub fn compare_encode(q: u32, m: u32, message: &[u8], word: &mut [u8]) -> u64 {
+    let (length, word_length) = (message.len(), word.len());
+    // SAFETY: each pointer and length is that of a slice lent for the call.
+    unsafe { raw::compare_encode(q, m, message.as_ptr(), length, word.as_mut_ptr(), word_length) }
+}
+
+/// The refusal number, or 1,000,000 + 1,000 * wrong + margin for a word read.
+pub fn compare_decode(q: u32, m: u32, message: &mut [u8], word: &[u8]) -> u64 {
+    let (length, word_length) = (message.len(), word.len());
+    // SAFETY: each pointer and length is that of a slice lent for the call.
+    unsafe { raw::compare_decode(q, m, message.as_mut_ptr(), length, word.as_ptr(), word_length) }
+}
+
+/// The C form of encode: the refusal number, or 100 for a word written.
+pub fn rm_write(q: u32, m: u32, message: &[u8], word: &mut [u8]) -> u32 {
+    let (length, word_length) = (message.len(), word.len());
+    // SAFETY: each pointer and length is that of a slice lent for the call.
+    unsafe { raw::rm_write(q, m, message.as_ptr(), length, word.as_mut_ptr(), word_length) }
+}
+
+/// The C form of decode: the refusal number, or 100 + wrong for a word read.
+pub fn rm_read(q: u32, m: u32, message: &mut [u8], word: &[u8]) -> u32 {
+    let (length, word_length) = (message.len(), word.len());
+    // SAFETY: each pointer and length is that of a slice lent for the call.
+    unsafe { raw::rm_read(q, m, message.as_mut_ptr(), length, word.as_ptr(), word_length) }
+}
+
+/// The refusal number, or 100 with the session.
+pub fn open_sender(q: u32, m: u32, session: &mut [u32]) -> u32 {
+    // SAFETY: the pointer and length are those of a slice lent for the call.
+    unsafe { raw::compare_open_sender(q, m, session.as_mut_ptr(), session.len()) }
+}
+
+/// The refusal number, or 100 with the session.
+pub fn open_receiver(q: u32, m: u32, session: &mut [u32]) -> u32 {
+    // SAFETY: the pointer and length are those of a slice lent for the call.
+    unsafe { raw::compare_open_receiver(q, m, session.as_mut_ptr(), session.len()) }
+}
+
+/// The refusal number, or 100 with the next session.
+pub fn send(session: &mut [u32], message: &[u8], word: &mut [u8]) -> u32 {
+    let (numbers, length, word_length) = (session.len(), message.len(), word.len());
+    let (session, word) = (session.as_mut_ptr(), word.as_mut_ptr());
+    // SAFETY: each pointer and length is that of a slice lent for the call.
+    unsafe { raw::compare_send(session, numbers, message.as_ptr(), length, word, word_length) }
+}
+
+/// The refusal number, at 9 with the next session, or 100 with the next session and the delivery.
+pub fn receive(session: &mut [u32], delivery: &mut [u32], message: &mut [u8], word: &[u8]) -> u32 {
+    let (numbers, values, length) = (session.len(), delivery.len(), message.len());
+    let (session, delivery, message) = (session.as_mut_ptr(), delivery.as_mut_ptr(), message.as_mut_ptr());
+    // SAFETY: each pointer and length is that of a slice lent for the call.
+    unsafe { raw::compare_receive(session, numbers, delivery, values, message, length, word.as_ptr(), word.len()) }
+}
+
+/// The refusal number, or 100 with the next session.
+pub fn miss(session: &mut [u32]) -> u32 {
+    // SAFETY: the pointer and length are those of a slice lent for the call.
+    unsafe { raw::compare_miss(session.as_mut_ptr(), session.len()) }
+}
+
+/// The refusal number; or 100 + symbol for sure and 104 for unsure, with both sums in the slice of two.
+pub fn soft_vote(m: u32, k: u32, re: &[f32], im: &[f32], sums: &mut [f32]) -> u32 {
+    let (re_length, im_length, length) = (re.len(), im.len(), sums.len());
+    // SAFETY: each pointer and length is that of a slice lent for the call.
+    unsafe { raw::compare_soft_vote(m, k, re.as_ptr(), re_length, im.as_ptr(), im_length, sums.as_mut_ptr(), length) }
+}
+
+/// The refusal number, or 100.
+pub fn soft_read(m: u32, message: &mut [u8], re: &[f32], im: &[f32]) -> u32 {
+    let (length, re_length, im_length) = (message.len(), re.len(), im.len());
+    // SAFETY: each pointer and length is that of a slice lent for the call.
+    unsafe { raw::compare_soft_read(m, message.as_mut_ptr(), length, re.as_ptr(), re_length, im.as_ptr(), im_length) }
+}

@@ -1,0 +1,114 @@
+//! Compares the proved code, called through its exported functions, with a second implementation: the answer, the
+//! session and every byte of the buffers, case by case; and what the program `session_list` prints with what a second
+//! lister does. The seed is fixed.
+//!
+//! The last line is `compare: ok, N cases`; any mismatch is printed and ends the program with status 1.
+
+mod calls;
+mod cases;
+mod check;
+mod codec;
+mod lake;
+mod lister;
+mod listings;
+mod model;
+mod session_model;
+mod sessions;
+mod soft;
+mod soft_cases;
+mod soft_model;
+mod whole;
+
+use std::process::ExitCode;
+
+use cases::Random;
+use check::Report;
+use codec::Codec;
+use listings::Listings;
+use model::Model;
+use sessions::Sessions;
+use soft::Soft;
+use whole::Whole;
+
+const SEED: u64 = 0x5742_7d01_e5a1_9c33;
+const RANDOM_ENCODES: u32 = 250_000;
+const RANDOM_DECODES: u32 = 800_000;
+const QUARTER_ROUNDS: u32 = 1000;
+const RANDOM_OPENINGS: u32 = 5000;
+const ANY_LISTS: u32 = 80_000;
+const WHOLE_LISTS: u32 = 40;
+const WHOLE_SLOTS: u32 = 64;
+const LISTINGS: u32 = 300;
+const SOFT_LINE: u32 = 30_000;
+const SOFT_WORDS: u32 = 20_000;
+const SOFT_RANDOM: u32 = 200_000;
+
+fn main() -> ExitCode {
+    let mut report = Report::default();
+    let mut random = Random::new(SEED);
+    let model = Model::new();
+    words(&mut report, &mut random, &model);
+    sessions(&mut report, &mut random, &model);
+    listings(&mut report, &mut random, &model);
+    soft(&mut report, &mut random);
+    finish(&report)
+}
+
+fn words(report: &mut Report, random: &mut Random, model: &Model) {
+    let mut codec = Codec::new(model);
+    println!("compare: the document's examples");
+    lake::run(&mut codec, report);
+    println!("compare: every message of the codes with at most {}", model::FEW_MESSAGES);
+    codec.every_message(report);
+    println!("compare: every word of the small codes");
+    codec.every_word(report);
+    println!("compare: damage up to a quarter");
+    codec.up_to_the_quarter(report, random, QUARTER_ROUNDS);
+    println!("compare: random cases, {RANDOM_ENCODES} encoded and {RANDOM_DECODES} decoded");
+    codec.random(report, random, RANDOM_ENCODES, RANDOM_DECODES);
+    codec.finish(report);
+}
+
+fn sessions(report: &mut Report, random: &mut Random, model: &Model) {
+    let mut sessions = Sessions::new(model);
+    let mut whole = Whole::new();
+    println!("compare: openings, and {ANY_LISTS} lists of calls on any sessions");
+    sessions.openings(report, random, RANDOM_OPENINGS);
+    sessions.any_lists(report, random, ANY_LISTS);
+    println!("compare: {WHOLE_LISTS} whole sessions of {WHOLE_SLOTS} slots in each code, and a full one");
+    whole.lists(&mut sessions, report, random, WHOLE_LISTS, WHOLE_SLOTS);
+    whole.full(&mut sessions, report, random);
+    sessions.finish(report);
+    whole.finish(report);
+}
+
+fn listings(report: &mut Report, random: &mut Random, model: &Model) {
+    let mut listings = Listings::new(model);
+    println!("compare: the session list");
+    listings.edges(report);
+    listings.random(report, random, LISTINGS);
+    listings.full(report, random);
+    listings.finish(report);
+}
+
+fn soft(report: &mut Report, random: &mut Random) {
+    let mut soft = Soft::new();
+    println!(
+        "compare: soft samples on the edges and on the line, of {SOFT_WORDS} words, and {SOFT_RANDOM} random ones"
+    );
+    soft.edges(report);
+    soft.near_the_line(report);
+    soft.on_the_line(report, random, SOFT_LINE);
+    soft.words(report, random, SOFT_WORDS);
+    soft.random(report, random, SOFT_RANDOM);
+    soft.finish(report);
+}
+
+fn finish(report: &Report) -> ExitCode {
+    if report.failures > 0 {
+        println!("compare: failed, {} mismatches in {} cases", report.failures, report.cases);
+        return ExitCode::FAILURE;
+    }
+    println!("compare: ok, {} cases", report.cases);
+    ExitCode::SUCCESS
+}
