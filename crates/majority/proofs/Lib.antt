@@ -1,3 +1,3 @@
-pub mod RaceLaws
-pub mod ConstantLaws
 pub mod StandingLaws
+pub mod ConstantLaws
+pub mod LongLaws

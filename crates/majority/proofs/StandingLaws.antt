@@ -18,9 +18,9 @@ use Rattle.theory.proofs.VoteLaws.{residues-exact, tally-ext}
 use Rattle.codeword.specs.Coded.{Fits}
 use Rattle.tally.specs.Received.{Received}
 use Rattle.majority.specs.Elected.{leastOf, leadOf, Standing, Elected}
-use Rattle.majority.specs.Race.{Leads}
+use Rattle.race.specs.Race.{Leads}
 use Rattle.tally.proofs.CountLaws.{bounds}
-use Rattle.majority.proofs.RaceLaws.{leads-ext, leads-lead}
+use Rattle.race.proofs.RaceLaws.{leads-ext, leads-lead}
 
 leastOf-ext : (n : ℕ) (f g : ℕ → ℕ) (b : ℕ) → ((k : ℕ) → k < n → f k ≡ g k) → leastOf n f b ≡ leastOf n g b
 unfolding leastOf
@@ -65,13 +65,13 @@ pub standing-all : (q m : ℕ) (w s : List ℕ) (k low : ℕ) → k ≡ m → St
 standing-all q m w s k low e r = rw e at r
 
 -- the word of the message with the constant 0 can be written
-pub standing-fits : (q m : ℕ) (w s c : List ℕ) (low : ℕ) → Received q m w → Standing q m w s m low → length c ≡ 256 → Fits q m s c
+pub standing-fits : (q m : ℕ) (w s c : List ℕ) (low : ℕ) → Received q m w → Standing q m w s m low → 2 ^ m ≤ length c → Fits q m s c
 standing-fits q m w s c low r t e = record {
   alphabet = r .alphabet;
   order = r .high;
   size = omega (arith, t .size, r .high);
   below = below;
-  room = omega (arith, e, pow-mono {i = m} {j = 8} (r .high));
+  room = e;
 }
   where
     below : (k : ℕ) → k < suc m → at s k < q
@@ -134,11 +134,11 @@ module _ (q m : ℕ) (w s : List ℕ) (r : Received q m w) (low : ℕ) (t : Stan
             pow-mono {i = m} {j = 8} (r .high),
           )
 
-  pub elected : (margin′ : ℕ) → margin′ ≡ min low (n - o) → Elected q m w (set s 0 a) (length w - n) margin′
-  elected margin′ e = record {
+  pub elected : (s′ : List ℕ) (wrong′ margin′ : ℕ) → s′ ≡ set s 0 a → wrong′ ≡ length w - n → margin′ ≡ min low (n - o) → Elected q m w s′ wrong′ margin′
+  elected s′ wrong′ margin′ e f g = rw e (record {
     size = simp length-set (t .size);
     below = below;
     wins = wins;
-    distance = omega (arith, exact, r .symbols .size);
-    least = e ∙ lowest;
-  }
+    distance = f ∙ omega (arith, exact, r .symbols .size);
+    least = g ∙ lowest;
+  })

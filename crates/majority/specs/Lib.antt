@@ -1,2 +1,1 @@
 pub mod Elected
-pub mod Race

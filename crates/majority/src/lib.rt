@@ -1,14 +1,17 @@
 // Majority-logic decoding of a word's votes (source document 001, section 3.1): the winners of all votes, and by how much they win.
+// Short words are counted one vote after the other, long ones sixteen at a time.
 ghost use mathlib.Core.Path.{_≡_};
-ghost use Prim.Native.Nat.{ℕ, _%_, _<_, _≤_, min};
-ghost use lib.ListN.{length};
+ghost use mathlib.Core.Bool.{true};
+ghost use Prim.Native.Nat.{ℕ, _+_, _-_, _/_, _^_, _<_, _≤_, min};
+ghost use lib.ListN.{length, set};
 ghost use Rattle.theory.specs.Sum.{at};
-ghost use Rattle.theory.specs.Vote.{votes, residues};
-ghost use Rattle.codeword.specs.Coded.{Coded};
+ghost use Rattle.theory.specs.Question.{isAlphabet};
 ghost use Rattle.tally.specs.Digits.{Units};
-ghost use Rattle.tally.specs.Received.{Received};
-ghost use Rattle.majority.specs.Race.{Leads, Meets, together};
-ghost use Rattle.majority.specs.Elected.{Standing, Elected};
+ghost use Rattle.tally.specs.Received.{Received, Tallied};
+ghost use Rattle.lanes.specs.Lane.{Within, Packed};
+ghost use Rattle.poll.specs.Pairs.{Pairs};
+ghost use Rattle.majority.specs.Elected.{StandingOf, Empty, LongCode, LongConstant, Elected};
+use race::Race;
 
 // The distance of a word from the winners of its votes, and their least lead.
 pub struct Outcome {
@@ -16,120 +19,99 @@ pub struct Outcome {
     pub margin: u32,
 }
 
-// The leader of a vote so far: its value, its votes, and the most votes of any other value.
-struct Race {
-    symbol: u32,
-    votes: u32,
-    next: u32,
-}
-
-// The lowest counter of a tally.
-fn low_digit(t: u64) -> u32
-    ensures { λ r. ⌜ (r ≡ t % 256) × (r < 256) ⌝ }
-{
-    (t % 256) as u32
-}
-
-// The race after x votes for v.
-fn meet(r: Race, v: u32, x: u32) -> Race
-    ensures { λ s. ⌜ Meets (r .symbol) (r .votes) (r .next) v x (s .symbol) (s .votes) (s .next) ⌝ }
-{
-    if x > r.votes {
-        Race {
-            symbol: v,
-            votes: x,
-            next: r.votes,
-        }
-    } else {
-        Race {
-            symbol: r.symbol,
-            votes: r.votes,
-            next: if x > r.next { x } else { r.next },
-        }
-    }
-}
-
-// The winner of the votes that two tallies hold together.
-fn winner(q: u32, t: u64, u: u64) -> Race
-    requires { ⌜ (0 < q) × (q ≤ 8) ⌝ }
-    ensures { λ r. ⌜ Leads q (together t u) (r .symbol) (r .votes) (r .next) ⌝ }
-{
-    let mut r = Race {
-        symbol: 0,
-        votes: low_digit(t) + low_digit(u),
-        next: 0,
-    };
-    let mut a = t;
-    let mut b = u;
-    for v in 1..q {
-        a = a >> 8;
-        b = b >> 8;
-        r = meet(r, v, low_digit(a) + low_digit(b));
-    }
-    r
-}
-
-// The winner of coefficient k.
-fn coefficient(q: u32, m: u32, k: u32, units: &[u64; 8], word: &[u8]) -> Race
-    requires { ⌜ Received q m (now word) × Units (now units) × (k < m) ⌝ }
-    ensures { λ r. ⌜ Leads q (votes q m k (at (now (word .entry)))) (r .symbol) (r .votes) (r .next) ⌝ }
-{
-    winner(q, tally::tally(q as usize, m, k, units, word), 0)
-}
-
-// The lower of the two.
-fn lower(a: u32, b: u32) -> u32
-    ensures { λ r. ⌜ r ≡ min a b ⌝ }
-{
-    if b < a { b } else { a }
-}
-
-// Puts the winners of all coefficients into the message and returns their least lead.
-fn coefficients(q: u32, m: u32, units: &[u64; 8], word: &[u8], message: &mut [u8; 9]) -> u32
-    requires { ⌜ Received q m (now word) × Units (now units) × (length (now message) ≡ 9) × (at (now message) 0 ≡ 0) ⌝ }
-    ensures { λ r. ⌜ Standing q m (now (word .entry)) (now (message .exit)) m r ⌝ }
+// Puts the winners of the coefficients into the message and returns their least lead.
+fn coefficients(q: u32, m: u32, t: &[u64; 8], message: &mut [u8; 9]) -> u32
+    requires { ⌜ (isAlphabet q ≡ true) × (m ≤ 8) × (length (now message) ≡ 9) × (at (now message) 0 ≡ 0) ⌝ }
+    ensures { λ r. ⌜ StandingOf q m (now (t .entry)) (now (message .exit)) m r ⌝ }
 {
     let mut least: u32 = 256;
     for k in 0..m {
-        let r = coefficient(q, m, k, units, word);
+        let r = race::winner(q, t[k as usize], 0);
         message[k as usize + 1] = r.symbol as u8;
-        least = lower(least, r.votes - r.next);
+        least = race::lower(least, r.votes - r.next);
     }
     least
 }
 
-// The winner of the constant: the code is the word of the message with the constant 0.
-fn constant(q: u32, m: u32, units: &[u64; 8], word: &[u8], message: &[u8; 9], code: &[u8]) -> Race
-    requires { ⌜ Received q m (now word) × Units (now units) × (at (now message) 0 ≡ 0) × (length (now code) ≡ 256) × Coded q m (now message) (now code) ⌝ }
-    ensures { λ r. ⌜ Leads q (residues q m (at (now (message .entry))) (at (now (word .entry)))) (r .symbol) (r .votes) (r .next) ⌝ }
+// Puts the constant's winner into place 0 of the message.
+fn seat(n: u32, least: u32, r: Race, message: &mut [u8; 9]) -> Outcome
+    requires { ⌜ (r .symbol < 256) × (r .votes ≤ n) × (r .next ≤ r .votes) × (length (now message) ≡ 9) ⌝ }
+    ensures { λ s. ⌜ (now (message .exit) ≡ set (now (message .entry)) 0 (r .symbol)) × (s .wrong ≡ n - r .votes) × (s .margin ≡ min least (r .votes - r .next)) ⌝ }
 {
-    let half = word.len() / 2;
-    let t = tally::gaps(q as usize, units, &word[0..half], code);
-    let u = tally::gaps(q as usize, units, &word[half..], &code[half..]);
-    winner(q, t, u)
-}
-
-// Puts the winners of all votes into the message; the code is where their word is written.
-fn elect(
-    q: u32,
-    m: u32,
-    units: &[u64; 8],
-    word: &[u8],
-    message: &mut [u8; 9],
-    code: &mut [u8; 256],
-) -> Outcome
-    requires { ⌜ Received q m (now word) × Units (now units) × (length (now message) ≡ 9) × (length (now code) ≡ 256) ⌝ }
-    ensures { λ r. ⌜ Elected q m (now (word .entry)) (now (message .exit)) (r .wrong) (r .margin) ⌝ }
-{
-    message[0] = 0;
-    let least = coefficients(q, m, units, word, message);
-    codeword::write(q as u8, m, message, code);
-    let r = constant(q, m, units, word, message, code);
     message[0] = r.symbol as u8;
     Outcome {
-        wrong: word.len() as u32 - r.votes,
-        margin: lower(least, r.votes - r.next),
+        wrong: n - r.votes,
+        margin: race::lower(least, r.votes - r.next),
     }
+}
+
+// The winners of a short word.
+fn elect_short(q: u32, m: u32, units: &[u64; 8], word: &[u8], message: &mut [u8; 9]) -> Outcome
+    requires { ⌜ Received q m (now word) × Units (now units) × (m ≤ 5) × (length (now message) ≡ 9) ⌝ }
+    ensures { λ r. ⌜ Elected q m (now (word .entry)) (now (message .exit)) (r .wrong) (r .margin) ⌝ }
+{
+    let mut t = [0u64; 8];
+    short::tallies(q as usize, m, units, word, &mut t);
+    message[0] = 0;
+    let least = coefficients(q, m, &t, message);
+    let mut code = [0u8; 32];
+    codeword::write(q as u8, m, message, &mut code);
+    let r = race::winner(q, short::residues(q as usize, m, units, word, &code), 0);
+    seat(word.len() as u32, least, r, message)
+}
+
+// Packs a long word and counts the votes for its coefficients.
+fn long_tallies(
+    q: u32,
+    m: u32,
+    word: &[u8],
+    table: &[u64; 128],
+    x: &mut [u64; 16],
+    t: &mut [u64; 8],
+)
+    requires { ⌜ Received q m (now word) × (5 ≤ m) × Pairs (now table) × Empty (now x) × (length (now t) ≡ 8) ⌝ }
+    ensures { λ r. ⌜ Within q (now (x .exit)) × Packed (2 ^ (m - 4)) (now (word .entry)) (now (x .exit)) × Tallied q m (now (word .entry)) (now (t .exit)) m ⌝ }
+{
+    lanes::load(word, x);
+    poll::tallies(q as u64, m, table, x, t);
+}
+
+// The winner of the constant of a long word: x holds the word, and y is where the code is packed.
+fn long_constant(
+    q: u32,
+    m: u32,
+    code: &[u8],
+    table: &[u64; 128],
+    x: &[u64; 16],
+    y: &mut [u64; 16],
+) -> Race
+    requires { ⌜ LongCode q m (now code) × Pairs (now table) × Within q (now x) × Empty (now y) ⌝ }
+    ensures { λ r. ⌜ LongConstant q m (now (code .entry)) (now (x .entry)) (r .symbol) (r .votes) (r .next) ⌝ }
+{
+    lanes::load(&code[0..questions::pow2(m)], y);
+    let half = questions::pow2(m - 5);
+    let t = poll::gaps(q as u64, 0, half, table, x, y);
+    let u = poll::gaps(q as u64, half, half, table, x, y);
+    race::winner(q, t, u)
+}
+
+// The winners of a long word.
+fn elect_long(q: u32, m: u32, units: &[u64; 8], word: &[u8], message: &mut [u8; 9]) -> Outcome
+    requires { ⌜ Received q m (now word) × Units (now units) × (5 ≤ m) × (length (now message) ≡ 9) ⌝ }
+    ensures { λ r. ⌜ Elected q m (now (word .entry)) (now (message .exit)) (r .wrong) (r .margin) ⌝ }
+{
+    let mut table = [0u64; 128];
+    poll::pairs(units, &mut table);
+    let mut x = [0u64; 16];
+    let mut t = [0u64; 8];
+    long_tallies(q, m, word, &table, &mut x, &mut t);
+    message[0] = 0;
+    let least = coefficients(q, m, &t, message);
+    let mut code = [0u8; 256];
+    codeword::write(q as u8, m, message, &mut code);
+    let mut y = [0u64; 16];
+    let r = long_constant(q, m, &code, &table, &x, &mut y);
+    seat(word.len() as u32, least, r, message)
 }
 
 // Puts the winners of all votes into the message: the only message that can be near the word.
@@ -147,6 +129,8 @@ pub fn winners(q: u32, m: u32, word: &[u8], message: &mut [u8; 9]) -> Outcome
         281474976710656,
         72057594037927936,
     ];
-    let mut code = [0u8; 256];
-    elect(q, m, &units, word, message, &mut code)
+    if m <= 5 {
+        return elect_short(q, m, &units, word, message);
+    }
+    elect_long(q, m, &units, word, message)
 }

@@ -1,2 +1,2 @@
-pub mod Received
 pub mod Digits
+pub mod Received

@@ -6,7 +6,9 @@ use mathlib.Core.List.{List}
 use lib.ListN.{length}
 use Rattle.theory.specs.Sum.{at}
 use Rattle.theory.specs.Code.{Symbols}
+use Rattle.theory.specs.Vote.{votes}
 use Rattle.theory.specs.Question.{isAlphabet}
+use Rattle.tally.specs.Digits.{Counts}
 
 -- a received word of 2 ^ m symbols
 pub record Received (q m : ℕ) (w : List ℕ) : Type 0 where
@@ -15,10 +17,16 @@ pub record Received (q m : ℕ) (w : List ℕ) : Type 0 where
   pub high : m ≤ 8
   pub symbols : Symbols q (2 ^ m) w
 
--- two lists of symbols, the second at least as long
-pub record Gaps (q : ℕ) (w c : List ℕ) : Type 0 where
+-- two lists whose first n are symbols
+pub record Gaps (q n : ℕ) (w c : List ℕ) : Type 0 where
   pub alphabet : isAlphabet q ≡ true
-  pub short : length w ≤ 128
-  pub even : length w ≤ length c
-  pub below : (i : ℕ) → i < length w → at w i < q
-  pub under : (i : ℕ) → i < length w → at c i < q
+  pub short : n ≤ 128
+  pub inside : n ≤ length w
+  pub even : n ≤ length c
+  pub below : (i : ℕ) → i < n → at w i < q
+  pub under : (i : ℕ) → i < n → at c i < q
+
+-- t has the tallies of the first n coefficients of w
+pub record Tallied (q m : ℕ) (w t : List ℕ) (n : ℕ) : Type 0 where
+  pub size : length t ≡ 8
+  pub each : (k : ℕ) → k < n → Counts q (at t k) (votes q m k (at w))

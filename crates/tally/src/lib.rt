@@ -1,5 +1,5 @@
-// The votes of a word counted. A tally is eight counters of eight bits in one number: a vote adds the unit of its value, from a
-// lent table. Eight bits hold the 128 votes for a coefficient; the constant has up to 256, so that its two halves are counted apart.
+// The votes of a word counted one by one. A tally is eight counters of eight bits in one number: a vote adds the unit of its value,
+// from a lent table. Eight bits hold the 128 votes for a coefficient, and half of the 256 for the constant.
 ghost use mathlib.Core.Path.{_≡_};
 ghost use mathlib.Core.Bool.{true};
 ghost use Prim.Native.Nat.{ℕ, _<_, _^_};
@@ -21,7 +21,7 @@ fn symbol(word: &[u8], i: usize) -> usize
 }
 
 // The j-th place whose bit k is 0: j with a 0 put in at bit k.
-fn nth_clear(k: u32, j: usize) -> usize
+pub fn nth_clear(k: u32, j: usize) -> usize
     requires { ⌜ (k < 8) × (j < 128) ⌝ }
     ensures { λ r. ⌜ r ≡ nthClear k j ⌝ }
 {
@@ -42,7 +42,7 @@ pub fn tally(q: usize, m: u32, k: u32, units: &[u64; 8], word: &[u8]) -> u64
     ensures { λ r. ⌜ Counts q r (votes q m k (at (now (word .entry)))) ⌝ }
 {
     let step = questions::pow2(k);
-    let half = word.len() / 2;
+    let half = questions::pow2(m - 1);
     let mut t: u64 = 0;
     for j in 0..half {
         let i = nth_clear(k, j);
@@ -51,13 +51,13 @@ pub fn tally(q: usize, m: u32, k: u32, units: &[u64; 8], word: &[u8]) -> u64
     t
 }
 
-// The tally of what the places of a word are ahead of the code's.
-pub fn gaps(q: usize, units: &[u64; 8], word: &[u8], code: &[u8]) -> u64
-    requires { ⌜ Gaps q (now word) (now code) × Units (now units) ⌝ }
-    ensures { λ r. ⌜ Counts q r (count (length (now (word .entry))) (λ i. 0) (gap q (now (word .entry)) (now (code .entry)))) ⌝ }
+// The tally of what the first n places of a word are ahead of the code's by.
+pub fn gaps(q: usize, n: usize, units: &[u64; 8], word: &[u8], code: &[u8]) -> u64
+    requires { ⌜ Gaps q n (now word) (now code) × Units (now units) ⌝ }
+    ensures { λ r. ⌜ Counts q r (count n (λ i. 0) (gap q (now (word .entry)) (now (code .entry)))) ⌝ }
 {
     let mut t: u64 = 0;
-    for i in 0..word.len() {
+    for i in 0..n {
         t += unit(q, units, symbol(word, i), symbol(code, i));
     }
     t

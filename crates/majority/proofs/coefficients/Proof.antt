@@ -1,31 +1,39 @@
 -- `coefficients` meets its contract. The loop's invariant: the winners of the first k coefficients stand in the message.
 use Prim.Native.Nat.{_≤_, _-_}
-use mathlib.Core.Path.{_≡_}
 use native.Mathlib.Omega.{arith}
-use borrow.Author.Needs.{needs}
-use Rattle.majority.specs.Elected.{Standing}
 use Rattle.tally.proofs.CountLaws.{bounds}
-use Rattle.majority.proofs.RaceLaws.{next-le}
+use Rattle.race.proofs.RaceLaws.{alone, next-le}
+use Rattle.majority.specs.Elected.{StandingOf}
 use Rattle.majority.proofs.StandingLaws.{standing-none, standing-next, standing-all}
+use borrow.Author.Needs.{needs}
 use Rattle.majority.proofs.coefficients.Statement.{statement}
 use Rattle.majority.proofs.coefficients.Tie as tie
 
 abbrev Inv-loop : tie.InvT-loop
-Inv-loop q m units word message₀ least₀ k₀ message least k = (k ≤ m) × Standing q m word message k least
+Inv-loop q m t message₀ least₀ k₀ message least k = (k ≤ m) × StandingOf q m t message k least
 
 abbrev μ-loop : tie.MeasureT-loop
-μ-loop q m units word message₀ least₀ k₀ message least k = m - k
+μ-loop q m t message₀ least₀ k₀ message least k = m - k
 
 loop-holds : tie.Need-loop-holds Inv-loop μ-loop
-loop-holds c = (omega arith, standing-none _ _ _ _ (c .before .pre .2) (c .before .pre .3))
+loop-holds c = (omega arith, λ w p. standing-none _ _ _ _ (c .pre .2) (c .pre .3))
 
-coefficient-requires : tie.Need-coefficient-requires Inv-loop μ-loop
-coefficient-requires c κs = search needs
+cast-winner : tie.Need-cast-winner Inv-loop μ-loop
+cast-winner c = search needs
+
+mul-winner : tie.Need-mul-winner Inv-loop μ-loop
+mul-winner c = omega (arith, c .before .before .pre .1)
+
+element-copy-out-winner : tie.Need-element-copy-out-winner Inv-loop μ-loop
+element-copy-out-winner c = omega (arith, c .before .before .pre .1)
+
+winner-requires : tie.Need-winner-requires Inv-loop μ-loop
+winner-requires c κs = search needs
 
 cast-message : tie.Need-cast-message Inv-loop μ-loop
 cast-message c =
     let s = c .before .before .before .before .before in
-    omega (arith, c .before .coefficient .ensures .inside, bounds (s .args .q) (s .pre .0 .alphabet))
+    omega (arith, c .before .winner .ensures .inside, bounds (s .args .q) (s .pre .0))
 
 cast-message-2 : tie.Need-cast-message-2 Inv-loop μ-loop
 cast-message-2 c = search needs
@@ -34,10 +42,10 @@ add-message : tie.Need-add-message Inv-loop μ-loop
 add-message c = search needs
 
 element-write-message : tie.Need-element-write-message Inv-loop μ-loop
-element-write-message c = omega (arith, c .before .before .before .before .before .pre .0 .high)
+element-write-message c = omega (arith, c .before .before .before .before .before .pre .1)
 
 sub-lower : tie.Need-sub-lower Inv-loop μ-loop
-sub-lower c = next-le _ _ _ _ _ (c .before .before .coefficient .ensures)
+sub-lower c = next-le _ _ _ _ _ (c .before .before .winner .ensures)
 
 lower-requires : tie.Need-lower-requires Inv-loop μ-loop
 lower-requires c κs = search needs
@@ -51,12 +59,12 @@ loop-less c = search needs
 loop-again : tie.Need-loop-again Inv-loop μ-loop
 loop-again c =
     let s = c .before .before .before .before .before .before .before in
-    let l = c .before .before .before .before .before .loop in
-    let r = c .before .before .before .coefficient in
-    (omega arith, standing-next (s .args .q) (s .args .m) (s .args .word .now) (l .message) (l .k) (l .least) (r .result .symbol) (r .result .votes) (r .result .next) (c .lower .result) (omega (arith, s .pre .0 .high)) (l .inv .1) (r .ensures) (c .lower .ensures))
+    let l = c .before .before .before .before .before .before .loop in
+    let r = c .before .before .before .winner in
+    (omega arith, λ w p. standing-next (s .args .q) (s .args .m) w (l .message) (l .k) (l .least) (r .result .symbol) (r .result .votes) (r .result .next) (c .lower .result) (omega (arith, s .pre .1)) (l .inv .1 w p) (alone _ _ _ _ _ _ (p .each (l .k) (omega arith)) (r .ensures)) (c .lower .ensures))
 
 returns : tie.Need-returns Inv-loop μ-loop
-returns c = standing-all _ _ _ _ (c .before .loop .k) _ (omega arith) (c .before .loop .inv .1)
+returns c w p = standing-all _ _ _ _ (c .before .loop .k) _ (omega arith) (c .before .loop .inv .1 w p)
 
 pub coefficients-spec : {M : Type 1} → statement M
 coefficients-spec =
@@ -65,7 +73,10 @@ coefficients-spec =
     Inv-loop
     μ-loop
     loop-holds
-    coefficient-requires
+    cast-winner
+    mul-winner
+    element-copy-out-winner
+    winner-requires
     cast-message
     cast-message-2
     add-message

@@ -9,13 +9,13 @@ use Rattle.tally.proofs.gaps.Statement.{statement}
 use Rattle.tally.proofs.gaps.Tie as tie
 
 abbrev Inv-loop : tie.InvT-loop
-Inv-loop q units word code t₀ i₀ i-end t i = (i ≤ i-end) × (i-end ≡ length word) × (t ≡ gapSum q word code i)
+Inv-loop q n units word code t₀ i₀ t i = (i ≤ n) × (t ≡ gapSum q word code i)
 
 abbrev μ-loop : tie.MeasureT-loop
-μ-loop q units word code t₀ i₀ i-end t i = i-end - i
+μ-loop q n units word code t₀ i₀ t i = n - i
 
 loop-holds : tie.Need-loop-holds Inv-loop μ-loop
-loop-holds c = (omega arith, refl, sym (gap-none _ _ _))
+loop-holds c = (omega arith, sym (gap-none _ _ _))
 
 symbol-requires : tie.Need-symbol-requires Inv-loop μ-loop
 symbol-requires c κs = omega arith
@@ -33,7 +33,7 @@ add-t : tie.Need-add-t Inv-loop μ-loop
 add-t c =
     let s = c .before .before .before .before .before .before .before in
     let l = c .before .before .before .before .loop in
-    record { fits = gap-fits (s .args .q) (s .args .word .now) (s .args .code .now) (s .pre .0) (l .t) (l .i) _ _ _ (omega arith) (l .inv .2) (c .before .before .symbol .ensures .0) (c .before .symbol2 .ensures .0) (c .unit .ensures) }
+    record { fits = gap-fits (s .args .q) (s .args .n) (s .args .word .now) (s .args .code .now) (s .pre .0) (l .t) (l .i) _ _ _ (omega arith) (l .inv .1) (c .before .before .symbol .ensures .0) (c .before .symbol2 .ensures .0) (c .unit .ensures) }
 
 add-i : tie.Need-add-i Inv-loop μ-loop
 add-i c = search needs
@@ -45,13 +45,13 @@ loop-again : tie.Need-loop-again Inv-loop μ-loop
 loop-again c =
     let s = c .before .before .before .before .before .before .before in
     let l = c .before .before .before .before .loop in
-    (omega arith, refl, gap-next (s .args .q) (s .args .word .now) (s .args .code .now) (s .pre .0) (l .t) (l .i) _ _ _ (omega arith) (l .inv .2) (c .before .before .symbol .ensures .0) (c .before .symbol2 .ensures .0) (c .unit .ensures))
+    (omega arith, gap-next (s .args .q) (s .args .n) (s .args .word .now) (s .args .code .now) (s .pre .0) (l .t) (l .i) _ _ _ (omega arith) (l .inv .1) (c .before .before .symbol .ensures .0) (c .before .symbol2 .ensures .0) (c .unit .ensures))
 
 returns : tie.Need-returns Inv-loop μ-loop
 returns c =
     let s = c .before .before .before .before in
     let l = c .before .loop in
-    gap-all (s .args .q) (s .args .word .now) (s .args .code .now) (s .pre .0) (l .t) (l .i) (l .inv .2) (omega arith)
+    gap-all (s .args .q) (s .args .n) (s .args .word .now) (s .args .code .now) (s .pre .0) (l .t) (l .i) (l .inv .1) (omega arith)
 
 pub gaps-spec : {M : Type 1} → statement M
 gaps-spec =

@@ -1,0 +1,14 @@
+//! Links the static libraries of the proved code: target/staticlib at the root of the repository.
+
+use std::{env, path::PathBuf};
+
+fn main() {
+    let package = PathBuf::from(env::var_os("CARGO_MANIFEST_DIR").expect("set by cargo"));
+    let folder = package.join("../target/staticlib");
+    println!("cargo:rustc-link-search=native={}", folder.display());
+    for name in ["compare_c", "rm_c", "compare_session_c", "compare_soft_c"] {
+        println!("cargo:rerun-if-changed={}", folder.join(format!("lib{name}.a")).display());
+        println!("cargo:rustc-link-lib=static={name}");
+    }
+    println!("cargo:rerun-if-changed=build.rs");
+}

@@ -1,0 +1,86 @@
+//! Agreement before time: on every input that is measured, all implementations give the same answer and leave the same
+//! bytes.
+
+use crate::inputs::{self, Kind, Samples};
+use crate::{calls, codes, proved};
+
+/// What stands in a buffer at entry.
+const ENTRY: u8 = 77;
+
+/// The forms of the calls.
+type Read = fn(u32, u32, &mut [u8], &[u8]) -> u64;
+type Write = fn(u32, u32, &[u8], &mut [u8]) -> u64;
+type SoftVote = fn(u32, u32, &[f32], &[f32], &mut [f32]) -> u32;
+type SoftRead = fn(u32, &mut [u8], &[f32], &[f32]) -> u32;
+
+/// Compares what two calls answered and left.
+fn same<T: PartialEq + std::fmt::Debug>(call: &str, input: String, proved: T, rust: T) -> Result<(), String> {
+    if proved == rust {
+        return Ok(());
+    }
+    Err(format!("{call} disagrees on {input}\n  proved code: {proved:?}\n  Rust: {rust:?}"))
+}
+
+fn reads(q: u32, m: u32, kind: Kind) -> Result<usize, String> {
+    let words = inputs::words(q, m, kind);
+    for word in &words {
+        let answer = |call: Read| {
+            let mut message = vec![ENTRY; m as usize + 1];
+            (call(q, m, &mut message, word), message)
+        };
+        let others = [("read (a)", calls::plain_read as Read), ("read (b)", calls::safe_read), ("read (c)", calls::safe_read_each)];
+        for (name, call) in others {
+            same(name, format!("q {q}, m {m}, {word:?}"), answer(proved::compare_decode), answer(call))?;
+        }
+    }
+    Ok(words.len())
+}
+
+fn writes(q: u32, m: u32) -> Result<usize, String> {
+    let messages = inputs::messages(q, m);
+    for message in &messages {
+        let answer = |call: Write| {
+            let mut word = vec![ENTRY; 1 << m];
+            (call(q, m, message, &mut word), word)
+        };
+        for (name, call) in [("plain write", calls::plain_write as Write), ("best safe write", calls::safe_write)] {
+            same(name, format!("q {q}, m {m}, {message:?}"), answer(proved::compare_encode), answer(call))?;
+        }
+    }
+    Ok(messages.len())
+}
+
+fn soft(m: u32) -> Result<usize, String> {
+    let samples = inputs::samples(m);
+    for Samples { re, im } in &samples {
+        let input = || format!("m {m}, {re:?}, {im:?}");
+        for k in 0..m {
+            let answer = |call: SoftVote| {
+                let mut sums = [f32::from(ENTRY); 2];
+                (call(m, k, re, im, &mut sums), sums.map(f32::to_bits))
+            };
+            same("soft vote", format!("k {k}, {}", input()), answer(proved::soft_vote), answer(calls::soft_vote))?;
+        }
+        let answer = |call: SoftRead| {
+            let mut message = vec![ENTRY; m as usize + 1];
+            (call(m, &mut message, re, im), message)
+        };
+        same("soft read", input(), answer(proved::soft_read), answer(calls::soft_read))?;
+    }
+    Ok(samples.len())
+}
+
+/// Compares all calls on all inputs, and gives the number of inputs.
+pub fn all() -> Result<usize, String> {
+    let mut count = 0;
+    for (q, m) in codes() {
+        for kind in inputs::KINDS {
+            count += reads(q, m, kind)?;
+        }
+        count += writes(q, m)?;
+    }
+    for m in 2..=8 {
+        count += soft(m)?;
+    }
+    Ok(count)
+}

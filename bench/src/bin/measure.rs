@@ -1,0 +1,39 @@
+//! The command behind `bench/run`: the agreement, each table, the input of the session list, and the calls to be counted.
+
+use std::path::Path;
+use std::process::ExitCode;
+
+use bench::{agreement, counting, inputs, tables};
+
+fn number<T: std::str::FromStr>(text: &str) -> Result<T, String> {
+    text.parse().map_err(|_| format!("not a number: {text}"))
+}
+
+fn run(arguments: &[&str]) -> Result<(), String> {
+    match arguments {
+        ["agreement"] => println!("all agree on {} inputs", agreement::all()?),
+        ["inputs"] => println!("{}", inputs::COUNT),
+        ["decode"] => tables::decode(),
+        ["encode"] => tables::encode(),
+        ["soft"] => tables::soft(),
+        ["session", file] => std::fs::write(file, inputs::session()).map_err(|error| format!("{file}: {error}"))?,
+        ["list", proved, rust, session, nothing] => {
+            tables::list(Path::new(proved), Path::new(rust), Path::new(session), Path::new(nothing))?
+        }
+        ["count", call, q, m, passes] => counting::run(call, number(q)?, number(m)?, number(passes)?)?,
+        _ => return Err(String::from("agreement | inputs | decode | encode | soft | session | list | count")),
+    }
+    Ok(())
+}
+
+fn main() -> ExitCode {
+    let arguments: Vec<String> = std::env::args().skip(1).collect();
+    let arguments: Vec<&str> = arguments.iter().map(String::as_str).collect();
+    match run(&arguments) {
+        Ok(()) => ExitCode::SUCCESS,
+        Err(message) => {
+            eprintln!("bench: {message}");
+            ExitCode::FAILURE
+        }
+    }
+}

@@ -1,0 +1,61 @@
+//! The implementations in Rust as calls of the same form as the proved ones: slices in, one number out, not inlined.
+
+use crate::questions::Refusal;
+use crate::{plain, safe, soft, Reading};
+
+/// 1,000,000 for a word written.
+#[inline(always)]
+fn written(answer: Result<(), Refusal>) -> u64 {
+    answer.map_or_else(u64::from, |()| 1_000_000)
+}
+
+/// 1,000,000 + 1,000 * wrong + margin for a word read.
+#[inline(always)]
+fn reading(answer: Result<Reading, Refusal>) -> u64 {
+    answer.map_or_else(u64::from, |read| 1_000_000 + 1_000 * u64::from(read.wrong) + u64::from(read.margin))
+}
+
+#[inline(never)]
+pub fn plain_read(q: u32, m: u32, message: &mut [u8], word: &[u8]) -> u64 {
+    reading(plain::read(q, m, message, word))
+}
+
+#[inline(never)]
+pub fn safe_read(q: u32, m: u32, message: &mut [u8], word: &[u8]) -> u64 {
+    reading(safe::read(q, m, message, word))
+}
+
+#[inline(never)]
+pub fn safe_read_each(q: u32, m: u32, message: &mut [u8], word: &[u8]) -> u64 {
+    reading(safe::read_each(q, m, message, word))
+}
+
+#[inline(never)]
+pub fn plain_write(q: u32, m: u32, message: &[u8], word: &mut [u8]) -> u64 {
+    written(plain::write(q, m, message, word))
+}
+
+#[inline(never)]
+pub fn safe_write(q: u32, m: u32, message: &[u8], word: &mut [u8]) -> u64 {
+    written(safe::write(q, m, message, word))
+}
+
+/// 100 + symbol for sure and 104 for unsure, with both sums in the slice of two.
+#[inline(never)]
+pub fn soft_vote(m: u32, k: u32, re: &[f32], im: &[f32], sums: &mut [f32]) -> u32 {
+    match soft::vote(m, k, re, im) {
+        Err(number) => number,
+        Ok(vote) => {
+            if let [real, imaginary] = sums {
+                (*real, *imaginary) = (vote.sums.re, vote.sums.im);
+            }
+            100 + vote.symbol.map_or(4, u32::from)
+        }
+    }
+}
+
+/// 100 for a message read.
+#[inline(never)]
+pub fn soft_read(m: u32, message: &mut [u8], re: &[f32], im: &[f32]) -> u32 {
+    soft::read(m, message, re, im).map_or_else(|number| number, |()| 100)
+}

@@ -1,0 +1,89 @@
+//! Plain safe Rust, (a): the bit of every index is tested, and every sum is taken modulo q.
+
+use crate::questions::{is_alphabet, is_order, yes, Refusal};
+use crate::Reading;
+
+/// Reads a word, or gives the number of the first question answered no: 1, 2, 5, 7, 8, 9.
+pub fn read(q: u32, m: u32, message: &mut [u8], word: &[u8]) -> Result<Reading, Refusal> {
+    yes(is_alphabet(q), 1)?;
+    yes(is_order(m), 2)?;
+    yes(message.len() == m as usize + 1, 5)?;
+    yes(word.len() == 1 << m, 7)?;
+    yes(word.iter().all(|&symbol| u32::from(symbol) < q), 8)?;
+    let mut found = [0; 9];
+    let mut margin = u32::MAX;
+    for k in 0..m as usize {
+        let (symbol, votes, next) = winner(&coefficient_votes(q, k, word));
+        found[k + 1] = symbol;
+        margin = margin.min(votes - next);
+    }
+    let (symbol, votes, next) = winner(&constant_votes(q, &found[1..=m as usize], word));
+    found[0] = symbol;
+    let wrong = word.len() as u32 - votes;
+    yes(4 * wrong < word.len() as u32, 9)?;
+    message.copy_from_slice(&found[..=m as usize]);
+    Ok(Reading { wrong, margin: margin.min(votes - next) })
+}
+
+/// How many votes each symbol has as coefficient k.
+fn coefficient_votes(q: u32, k: usize, word: &[u8]) -> [u32; 8] {
+    let mut votes = [0; 8];
+    for i in 0..word.len() {
+        if (i >> k) & 1 == 0 {
+            let vote = (u32::from(word[i + (1 << k)]) + q - u32::from(word[i])) % q;
+            votes[vote as usize] += 1;
+        }
+    }
+    votes
+}
+
+/// How many votes each symbol has as the constant.
+fn constant_votes(q: u32, coefficients: &[u8], word: &[u8]) -> [u32; 8] {
+    let mut votes = [0; 8];
+    for (i, &symbol) in word.iter().enumerate() {
+        let vote = (u32::from(symbol) + q - symbol_at(q, 0, coefficients, i)) % q;
+        votes[vote as usize] += 1;
+    }
+    votes
+}
+
+/// Symbol i of the word of this constant and these coefficients.
+fn symbol_at(q: u32, constant: u8, coefficients: &[u8], i: usize) -> u32 {
+    let mut sum = u32::from(constant);
+    for (k, &coefficient) in coefficients.iter().enumerate() {
+        if (i >> k) & 1 == 1 {
+            sum += u32::from(coefficient);
+        }
+    }
+    sum % q
+}
+
+/// The first symbol with the most votes, its votes, and the most votes of any other.
+fn winner(votes: &[u32; 8]) -> (u8, u32, u32) {
+    let mut first = 0;
+    for symbol in 1..8 {
+        if votes[symbol] > votes[first] {
+            first = symbol;
+        }
+    }
+    let mut next = 0;
+    for (symbol, &count) in votes.iter().enumerate() {
+        if symbol != first && count > next {
+            next = count;
+        }
+    }
+    (first as u8, votes[first], next)
+}
+
+/// Writes the word of a message, or gives the number of the first question answered no: 1, 2, 5, 6, 7.
+pub fn write(q: u32, m: u32, message: &[u8], word: &mut [u8]) -> Result<(), Refusal> {
+    yes(is_alphabet(q), 1)?;
+    yes(is_order(m), 2)?;
+    yes(message.len() == m as usize + 1, 5)?;
+    yes(message.iter().all(|&symbol| u32::from(symbol) < q), 6)?;
+    yes(word.len() == 1 << m, 7)?;
+    for (i, symbol) in word.iter_mut().enumerate() {
+        *symbol = symbol_at(q, message[0], &message[1..], i) as u8;
+    }
+    Ok(())
+}

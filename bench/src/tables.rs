@@ -1,0 +1,174 @@
+//! The tables of times, as Markdown: what is measured, the ratios, and in words whether each bar holds.
+
+use std::fmt;
+use std::path::Path;
+
+use crate::inputs::{self, COUNT, KINDS};
+use crate::passes::{self, Pass};
+use crate::{calls, codes, processes, proved, timing};
+
+/// The rows of a table are measured over and over, so many times in all, and the best times count: a load on the machine
+/// comes and goes.
+const MEASUREMENTS: usize = 256;
+const ROUNDS: usize = 150;
+const RUNS: usize = 200;
+
+/// The places where a bar is missed are named where they are so few.
+const NAMED: usize = 9;
+
+/// The time of one call: the proved code's first, then those of the others.
+type Times<const C: usize> = [f64; C];
+
+/// How many times as fast the proved code is as another, with two digits, and where.
+struct Ratio {
+    value: f64,
+    place: String,
+}
+
+impl Ratio {
+    fn new(other: f64, proved: f64, place: &str) -> Ratio {
+        Ratio { value: (100.0 * other / proved).round() / 100.0, place: String::from(place) }
+    }
+}
+
+impl fmt::Display for Ratio {
+    fn fmt(&self, f: &mut fmt::Formatter) -> fmt::Result {
+        write!(f, "{:.2}", self.value)
+    }
+}
+
+/// The best times of one call in each row, over all sweeps.
+fn sweep<R, const C: usize>(rows: &[R], passes: impl Fn(&R) -> [Pass<'_>; C]) -> Vec<Times<C>> {
+    let mut best = vec![[f64::MAX; C]; rows.len()];
+    for _ in 0..MEASUREMENTS / rows.len() {
+        for (row, best) in rows.iter().zip(&mut best) {
+            let times = timing::best(ROUNDS, passes(row));
+            for (best, time) in best.iter_mut().zip(times) {
+                *best = best.min(time / COUNT as f64);
+            }
+        }
+    }
+    best
+}
+
+fn head(titles: &[&str]) {
+    println!("| {} |", titles.join(" | "));
+    println!("|{}", "---:|".repeat(titles.len()));
+}
+
+fn row(cells: impl IntoIterator<Item = String>) {
+    println!("| {} |", cells.into_iter().collect::<Vec<_>>().join(" | "));
+}
+
+/// Names the least ratio.
+fn least<'a>(what: &str, ratios: impl IntoIterator<Item = &'a Ratio>) {
+    let least = ratios.into_iter().min_by(|x, y| x.value.total_cmp(&y.value)).expect("a ratio");
+    println!("\nThe least ratio {what} is {least} ({}).", least.place);
+}
+
+/// Says whether each ratio reaches the bar, and where the others are.
+fn verdict<'a>(bar: f64, what: &str, ratios: impl IntoIterator<Item = &'a Ratio>) {
+    let ratios: Vec<&Ratio> = ratios.into_iter().collect();
+    least(what, ratios.iter().copied());
+    let missed: Vec<&str> = ratios.iter().filter(|ratio| ratio.value < bar).map(|ratio| ratio.place.as_str()).collect();
+    let places = if missed.len() > NAMED { String::new() } else { format!(" ({})", missed.join("; ")) };
+    if missed.is_empty() {
+        println!("The bar, {bar:.2}, **holds**.");
+    } else {
+        println!("The bar, {bar:.2}, **does not hold**: it is missed in {} of {}{places}.", missed.len(), ratios.len());
+    }
+}
+
+/// Decode: every code, with words of every kind.
+pub fn decode() {
+    let kinds = || KINDS.into_iter().zip(["clean", "lightly damaged", "doubtful"]);
+    let rows: Vec<_> =
+        codes().flat_map(|(q, m)| kinds().map(move |(kind, name)| (q, m, name, inputs::words(q, m, kind)))).collect();
+    let times = sweep(&rows, |&(q, m, _, ref words)| {
+        [
+            passes::read(proved::compare_decode, q, m, words),
+            passes::read(calls::plain_read, q, m, words),
+            passes::read(calls::safe_read, q, m, words),
+            passes::read(calls::safe_read_each, q, m, words),
+        ]
+    });
+    let ratios = |other: usize| -> Vec<Ratio> {
+        let place = |q, m, name| format!("q {q}, m {m}, {name}");
+        let each = rows.iter().zip(&times);
+        each.map(|((q, m, name, _), times)| Ratio::new(times[other], times[0], &place(q, m, name))).collect()
+    };
+    let (plain, safe, each) = (ratios(1), ratios(2), ratios(3));
+    head(&["q", "m", "ns, clean", "(a)", "(b)", "(c)", "ns, light", "(a)", "(b)", "(c)", "ns, doubtful", "(a)", "(b)", "(c)"]);
+    for (first, (q, m)) in (0..).step_by(KINDS.len()).zip(codes()) {
+        let cells = |i: usize| [format!("{:.0}", times[i][0]), plain[i].to_string(), safe[i].to_string(), each[i].to_string()];
+        row([q, m].map(|x| x.to_string()).into_iter().chain((first..first + KINDS.len()).flat_map(cells)));
+    }
+    least("to (a)", &plain);
+    let raised = |(q, m, ..): &(u32, u32, &str, Vec<Vec<u8>>)| *m == 8 || (*q, *m) == (4, 4);
+    for (name, ratios) in [("(b)", &safe), ("(c)", &each)] {
+        verdict(1.0, &format!("to {name} at any code"), ratios);
+        let high = rows.iter().zip(ratios).filter(|(row, _)| raised(row));
+        verdict(1.6, &format!("to {name} at q 4, m 4 and at m 8"), high.map(|(_, ratio)| ratio));
+    }
+}
+
+/// Encode: every code.
+pub fn encode() {
+    let rows: Vec<_> = codes().map(|(q, m)| (q, m, inputs::messages(q, m))).collect();
+    let times = sweep(&rows, |&(q, m, ref messages)| {
+        [
+            passes::write(proved::compare_encode, q, m, messages),
+            passes::write(calls::plain_write, q, m, messages),
+            passes::write(calls::safe_write, q, m, messages),
+        ]
+    });
+    head(&["q", "m", "ns", "plain", "best safe"]);
+    let mut ratios = Vec::new();
+    for ([proved, plain, safe], (q, m)) in times.into_iter().zip(codes()) {
+        let ratio = |other| Ratio::new(other, proved, &format!("q {q}, m {m}"));
+        row([q.to_string(), m.to_string(), format!("{proved:.1}"), ratio(plain).to_string(), ratio(safe).to_string()]);
+        ratios.push(ratio(safe));
+    }
+    verdict(1.0, "to the best safe writer", &ratios);
+}
+
+/// One soft vote and the soft read: every m.
+pub fn soft() {
+    let rows: Vec<_> = (2..=8).map(|m| (m, inputs::samples(m))).collect();
+    let votes = sweep(&rows, |&(m, ref samples)| {
+        [passes::soft_vote(proved::soft_vote, m, samples), passes::soft_vote(calls::soft_vote, m, samples)]
+    });
+    let reads = sweep(&rows, |&(m, ref samples)| {
+        [passes::soft_read(proved::soft_read, m, samples), passes::soft_read(calls::soft_read, m, samples)]
+    });
+    let ratios = |times: &[Times<2>]| -> Vec<Ratio> {
+        (2..).zip(times).map(|(m, [proved, rust])| Ratio::new(*rust, *proved, &format!("m {m}"))).collect()
+    };
+    let (vote, read) = (ratios(&votes), ratios(&reads));
+    head(&["m", "ns, vote", "vote", "ns, read", "read"]);
+    for (i, (m, _)) in rows.iter().enumerate() {
+        let ns = |times: &[Times<2>]| format!("{:.0}", times[i][0]);
+        row([m.to_string(), ns(&votes), vote[i].to_string(), ns(&reads), read[i].to_string()]);
+    }
+    verdict(1.0, "of the soft vote", &vote);
+    verdict(1.0, "of the soft read", &read);
+}
+
+/// The session list over a full session, as two processes, which must print the same.
+pub fn list(proved: &Path, rust: &Path, session: &Path, nothing: &Path) -> Result<(), String> {
+    let (text, rust_text) = (processes::output(proved, session)?, processes::output(rust, session)?);
+    if text != rust_text || !text.ends_with(b"\nover\n") {
+        return Err(String::from("the session list and its Rust counterpart print different lists of a full session"));
+    }
+    let whole = processes::best(RUNS, [proved, rust], session)?;
+    let start = processes::best(RUNS, [proved, rust], nothing)?;
+    let net = [whole[0] - start[0], whole[1] - start[1]];
+    head(&["", "ms", "ratio"]);
+    let ratios = [("whole process", whole), ("without start and end", net)].map(|(name, [proved, rust])| {
+        let ratio = Ratio::new(rust, proved, name);
+        row([String::from(name), format!("{:.1}", proved / 1e6), ratio.to_string()]);
+        ratio
+    });
+    verdict(1.0, "of the list", &ratios);
+    Ok(())
+}

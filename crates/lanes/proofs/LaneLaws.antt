@@ -1,0 +1,163 @@
+-- Lanes of constants, blends and differences. Assumes nothing.
+use Prim.Native.Nat.{ℕ, zero, suc, _+_, _*_, _-_, _/_, _%_, _^_, _≤_, _<_}
+use mathlib.Core.Path.{_≡_, refl, ap, ap₂, sym, _∙_}
+use mathlib.Core.Logic.{_⊎_, inl, inr}
+use mathlib.Core.Bool.{Bool, true, _&&_}
+use native.Mathlib.Omega.{arith}
+use native.Mathlib.Nat.{not-suc-le-zero, le-of-suc-le-suc, eq-or-lt-of-le, mod-eq-of-lt}
+use borrow.Author.Tests.{eqb-true}
+use lib.Dec.{eqb}
+use lib.Bits.{bitAnd, and-mask, and-zero-r, and-le-l}
+use Rattle.theory.specs.Index.{bit}
+use Rattle.theory.specs.Modular.{subMod}
+use Rattle.theory.specs.Question.{isAlphabet}
+use Rattle.theory.proofs.IndexLaws.{bit-lt}
+use Rattle.theory.proofs.ModularLaws.{subMod-code, subMod-lt}
+use Rattle.theory.proofs.QuestionLaws.{Alphabet, and-true, alphabet, alphabet-bounds, mask-mod}
+use Rattle.digits.specs.Digit.{digit}
+use Rattle.digits.proofs.DigitLaws.{digit-lt, digit-and, digit-add, add-lt, digit-sub, sub-le, digit-times}
+use Rattle.lanes.specs.Lane.{Lanes, Below, ClearLanes, Blend}
+
+-- a test of all numbers below n, by computation
+unfoldable pub every : ℕ → (ℕ → Bool) → Bool
+every zero p = true
+every (suc n) p = every n p && p n
+
+pub every-at : (n : ℕ) (p : ℕ → Bool) → every n p ≡ true → (i : ℕ) → i < n → p i ≡ true
+unfolding every
+every-at zero p e i l = absurd (not-suc-le-zero l)
+every-at (suc n) p e i l = go (eq-or-lt-of-le (le-of-suc-le-suc l)) (every-at n p (and-true (every n p) (p n) e .0) i)
+  where
+    go : (i ≡ n) ⊎ (i < n) → (i < n → p i ≡ true) → p i ≡ true
+    go (inl f) ih = ap p f ∙ and-true (every n p) (p n) e .1
+    go (inr m) ih = ih m
+
+-- the lanes of a number that is written out, by one computed test
+pub lanes-are : (x : ℕ) (f : ℕ → ℕ) → every 16 (λ t. eqb (digit 4 x t) (f t)) ≡ true → Lanes x f
+lanes-are x f e t h = eqb-true _ _ (every-at 16 (λ t. eqb (digit 4 x t) (f t)) e t h)
+
+full-lanes : Lanes 0xffff_ffff_ffff_ffff (λ t. 15)
+unfolding every digit
+full-lanes = lanes-are 0xffff_ffff_ffff_ffff (λ t. 15) refl
+
+eight-lanes : Lanes 0x8888_8888_8888_8888 (λ t. 8)
+unfolding every digit
+eight-lanes = lanes-are 0x8888_8888_8888_8888 (λ t. 8) refl
+
+one-lanes : Lanes 0x1111_1111_1111_1111 (λ t. 1)
+unfolding every digit
+one-lanes = lanes-are 0x1111_1111_1111_1111 (λ t. 1) refl
+
+pub clear-at : (l n x : ℕ) → l ≡ n → every 16 (λ t. eqb (digit 4 x t) (15 * (1 - bit n t))) ≡ true → ClearLanes l x
+clear-at l n x e f t h = lanes-are x (λ t. 15 * (1 - bit n t)) f t h ∙ ap (λ z. 15 * (1 - bit z t)) (sym e)
+
+-- a lane under a mask
+keep : (d e : ℕ) → d < 16 → e ≡ 15 → bitAnd d e ≡ d
+keep d e h f = ap (bitAnd d) f ∙ and-mask d 4 ∙ mod-eq-of-lt h
+
+drop : (d e : ℕ) → e ≡ 0 → bitAnd d e ≡ 0
+drop d e f = ap (bitAnd d) f ∙ and-zero-r d
+
+module _ (l u v e : ℕ) (hu : u < 18446744073709551616) (hv : v < 18446744073709551616) (he : e < 18446744073709551616) (c : ClearLanes l e) where
+  odd-lanes : Lanes (18446744073709551615 - e) (λ t. 15 - 15 * (1 - bit l t))
+  odd-lanes t h =
+      digit-sub 4 16 18446744073709551615 e (omega arith) he (λ i j. omega (arith, full-lanes i j, digit-lt 4 e i)) t h
+      ∙ ap₂ (λ x y. x - y) (full-lanes t h) (c t h)
+
+  odd-le : 18446744073709551615 - e < 18446744073709551616
+  odd-le = omega arith
+
+  left-lane : (t : ℕ) → t < 16 → digit 4 (bitAnd u e) t ≡ bitAnd (digit 4 u t) (15 * (1 - bit l t))
+  left-lane t h = digit-and 4 u e t ∙ ap (bitAnd (digit 4 u t)) (c t h)
+
+  right-lane : (t : ℕ) → t < 16 → digit 4 (bitAnd v (18446744073709551615 - e)) t ≡ bitAnd (digit 4 v t) (15 - 15 * (1 - bit l t))
+  right-lane t h = digit-and 4 v (18446744073709551615 - e) t ∙ ap (bitAnd (digit 4 v t)) (odd-lanes t h)
+
+  module _ (t : ℕ) (h : t < 16) where
+    left-kept : bit l t ≡ 0 → digit 4 (bitAnd u e) t ≡ digit 4 u t
+    left-kept z = left-lane t h ∙ keep (digit 4 u t) _ (digit-lt 4 u t) (ap (λ x. 15 * (1 - x)) z)
+
+    left-none : bit l t ≡ 1 → digit 4 (bitAnd u e) t ≡ 0
+    left-none z = left-lane t h ∙ drop (digit 4 u t) _ (ap (λ x. 15 * (1 - x)) z)
+
+    right-none : bit l t ≡ 0 → digit 4 (bitAnd v (18446744073709551615 - e)) t ≡ 0
+    right-none z = right-lane t h ∙ drop (digit 4 v t) _ (ap (λ x. 15 - 15 * (1 - x)) z)
+
+    right-kept : bit l t ≡ 1 → digit 4 (bitAnd v (18446744073709551615 - e)) t ≡ digit 4 v t
+    right-kept z = right-lane t h ∙ keep (digit 4 v t) _ (digit-lt 4 v t) (ap (λ x. 15 - 15 * (1 - x)) z)
+
+    blend-fits : digit 4 (bitAnd u e) t + digit 4 (bitAnd v (18446744073709551615 - e)) t < 16
+    blend-fits = go (bit l t) refl (bit-lt l t)
+      where
+        go : (b : ℕ) → bit l t ≡ b → b < 2 → digit 4 (bitAnd u e) t + digit 4 (bitAnd v (18446744073709551615 - e)) t < 16
+        go zero z k = omega (arith, right-none z, digit-lt 4 (bitAnd u e) t)
+        go (suc zero) z k = omega (arith, left-none z, digit-lt 4 (bitAnd v (18446744073709551615 - e)) t)
+        go (suc (suc b)) z k = absurd (not-suc-le-zero (le-of-suc-le-suc (le-of-suc-le-suc k)))
+
+  left-lt : bitAnd u e < 2 ^ (4 * 16)
+  left-lt = omega (arith, and-le-l u e)
+
+  right-lt : bitAnd v (18446744073709551615 - e) < 2 ^ (4 * 16)
+  right-lt = omega (arith, and-le-l v (18446744073709551615 - e))
+
+  pub blend-lt : bitAnd u e + bitAnd v (18446744073709551615 - e) < 18446744073709551616
+  blend-lt = add-lt 4 16 (bitAnd u e) (bitAnd v (18446744073709551615 - e)) left-lt right-lt blend-fits
+
+  -- THE BLEND of two numbers
+  pub blend-is : Blend l u v (bitAnd u e + bitAnd v (18446744073709551615 - e))
+  blend-is = record {
+    low = λ t h z. added t h ∙ ap₂ (λ x y. x + y) (left-kept t h z) (right-none t h z) ∙ omega arith;
+    high = λ t h z. added t h ∙ ap₂ (λ x y. x + y) (left-none t h z) (right-kept t h z) ∙ omega arith;
+  }
+    where
+      added : (t : ℕ) → t < 16 → digit 4 (bitAnd u e + bitAnd v (18446744073709551615 - e)) t ≡ digit 4 (bitAnd u e) t + digit 4 (bitAnd v (18446744073709551615 - e)) t
+      added t h = digit-add 4 16 (bitAnd u e) (bitAnd v (18446744073709551615 - e)) left-lt right-lt blend-fits t h
+
+-- DIFFERENCES of lanes modulo q
+eight-more : (q a b : ℕ) → Alphabet q → b < q → (a + 8 - b) % q ≡ subMod q a b
+eight-more q a b h l = each h ∙ sym (subMod-code q a b l)
+  where
+    each : Alphabet q → (a + 8 - b) % q ≡ (a + q - b) % q
+    each (inl e) = let k : b < 2 = omega arith in rw e (omega arith)
+    each (inr (inl e)) = let k : b < 4 = omega arith in rw e (omega arith)
+    each (inr (inr e)) = rw e
+
+module _ (q y x : ℕ) (a : isAlphabet q ≡ true) (hy : y < 18446744073709551616) (hx : x < 18446744073709551616) (by : Below q y) (bx : Below q x) where
+  pub few : (2 ≤ q) × (q ≤ 8)
+  few = alphabet-bounds q (alphabet q a)
+
+  lifted : (t : ℕ) → t < 16 → digit 4 y t + digit 4 0x8888_8888_8888_8888 t < 16
+  lifted t h = omega (arith, by t h, few, eight-lanes t h)
+
+  pub lift-lt : y + 0x8888_8888_8888_8888 < 18446744073709551616
+  lift-lt = add-lt 4 16 y 0x8888_8888_8888_8888 hy (omega arith) lifted
+
+  lift-lane : (t : ℕ) → t < 16 → digit 4 (y + 0x8888_8888_8888_8888) t ≡ digit 4 y t + 8
+  lift-lane t h = digit-add 4 16 y 0x8888_8888_8888_8888 hy (omega arith) lifted t h ∙ ap (λ z. digit 4 y t + z) (eight-lanes t h)
+
+  under : (t : ℕ) → t < 16 → digit 4 x t ≤ digit 4 (y + 0x8888_8888_8888_8888) t
+  under t h = omega (arith, lift-lane t h, bx t h, few)
+
+  pub less-le : x ≤ y + 0x8888_8888_8888_8888
+  less-le = sub-le 4 16 (y + 0x8888_8888_8888_8888) x lift-lt hx under
+
+  less-lane : (t : ℕ) → t < 16 → digit 4 (y + 0x8888_8888_8888_8888 - x) t ≡ digit 4 y t + 8 - digit 4 x t
+  less-lane t h = digit-sub 4 16 (y + 0x8888_8888_8888_8888) x lift-lt hx under t h ∙ ap (λ z. z - digit 4 x t) (lift-lane t h)
+
+  mask-lane : (t : ℕ) → t < 16 → digit 4 ((q - 1) * 0x1111_1111_1111_1111) t ≡ q - 1
+  mask-lane t h =
+      digit-times 4 16 (q - 1) 0x1111_1111_1111_1111 (omega arith) (λ i j. omega (arith, few, ap (λ z. (q - 1) * z) (one-lanes i j))) t h
+      ∙ ap (λ z. (q - 1) * z) (one-lanes t h) ∙ omega arith
+
+  pub mask-lt : (q - 1) * 0x1111_1111_1111_1111 < 18446744073709551616
+  mask-lt = omega (arith, few)
+
+  pub less-is : Lanes (bitAnd (y + 0x8888_8888_8888_8888 - x) ((q - 1) * 0x1111_1111_1111_1111)) (λ t. subMod q (digit 4 y t) (digit 4 x t))
+  less-is t h =
+      digit-and 4 (y + 0x8888_8888_8888_8888 - x) ((q - 1) * 0x1111_1111_1111_1111) t
+      ∙ ap₂ bitAnd (less-lane t h) (mask-lane t h)
+      ∙ mask-mod q _ (alphabet q a)
+      ∙ eight-more q (digit 4 y t) (digit 4 x t) (alphabet q a) (bx t h)
+
+pub less-below : (q y x r : ℕ) → isAlphabet q ≡ true → Lanes r (λ t. subMod q (digit 4 y t) (digit 4 x t)) → Below q r
+less-below q y x r a d t h = omega (arith, d t h, subMod-lt q (digit 4 y t) (digit 4 x t) (omega (arith, alphabet-bounds q (alphabet q a))))

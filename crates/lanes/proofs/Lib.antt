@@ -1,0 +1,5 @@
+pub mod LaneLaws
+pub mod SpotLaws
+pub mod NearLaws
+pub mod BallotLaws
+pub mod LoadLaws

@@ -1,0 +1,72 @@
+-- `gaps` meets its contract. The loop's invariant: t is the sum of the units of the first i numbers.
+use Prim.Native.Nat.{_+_, _-_, _≤_, _<_}
+use native.Mathlib.Omega.{arith}
+use Rattle.lanes.proofs.LaneLaws.{less-below}
+use Rattle.poll.proofs.PollLaws.{Gapped, eight-values, gaps-none, gaps-next, gaps-all}
+use borrow.Author.Needs.{needs}
+use Rattle.poll.proofs.gaps.Statement.{statement}
+use Rattle.poll.proofs.gaps.Tie as tie
+
+abbrev Inv-loop : tie.InvT-loop
+Inv-loop q from count table x y t₀ i₀ t i = (i ≤ count) × Gapped q from x y i t
+
+abbrev μ-loop : tie.MeasureT-loop
+μ-loop q from count table x y t₀ i₀ t i = count - i
+
+loop-holds : tie.Need-loop-holds Inv-loop μ-loop
+loop-holds c = (omega arith, gaps-none (c .args .q) (c .args .from) (c .args .x .now) (c .args .y .now))
+
+add-ahead : tie.Need-add-ahead Inv-loop μ-loop
+add-ahead c = omega (arith, c .before .before .pre .4)
+
+ahead-requires : tie.Need-ahead-requires Inv-loop μ-loop
+ahead-requires c κs =
+    let s = c .before .before in
+    (s .pre .0, omega (arith, s .pre .4), s .pre .1, s .pre .2)
+
+poll-requires : tie.Need-poll-requires Inv-loop μ-loop
+poll-requires c κs =
+    let s = c .before .before .before in
+    (s .pre .3, eight-values (s .args .q) _ (s .pre .0) (less-below (s .args .q) _ _ _ (s .pre .0) (c .ahead .ensures)))
+
+-- one number more
+next : (c : tie.After-poll Inv-loop μ-loop)
+    → (c .before .before .before .loop .t + c .poll .result < 18446744073709551616)
+    × Gapped (c .before .before .before .before .args .q) (c .before .before .before .before .args .from) (c .before .before .before .before .args .x .now) (c .before .before .before .before .args .y .now) (c .before .before .before .loop .i + 1) (c .before .before .before .loop .t + c .poll .result)
+next c =
+    let s = c .before .before .before .before in
+    let l = c .before .before .before .loop in
+    gaps-next (s .args .q) (s .args .from) (s .args .x .now) (s .args .y .now) (l .i) (l .t) _ _ (omega (arith, s .pre .5)) (l .inv .1) (c .before .ahead .ensures) (c .poll .ensures .0) (c .poll .ensures .1)
+
+add-t : tie.Need-add-t Inv-loop μ-loop
+add-t c = record { fits = next c .0 }
+
+add-i : tie.Need-add-i Inv-loop μ-loop
+add-i c = search needs
+
+loop-less : tie.Need-loop-less Inv-loop μ-loop
+loop-less c = search needs
+
+loop-again : tie.Need-loop-again Inv-loop μ-loop
+loop-again c = (omega arith, next c .1)
+
+returns : tie.Need-returns Inv-loop μ-loop
+returns c =
+    let s = c .before .before in
+    gaps-all (s .args .q) (s .args .from) (s .args .x .now) (s .args .y .now) (s .args .count) (c .before .loop .i) _ (omega arith) (s .pre .0) (s .pre .5) (c .before .loop .inv .1)
+
+pub gaps-spec : {M : Type 1} → statement M
+gaps-spec =
+    tie.close
+    (tie.spec
+    Inv-loop
+    μ-loop
+    loop-holds
+    add-ahead
+    ahead-requires
+    poll-requires
+    add-t
+    add-i
+    loop-less
+    loop-again
+    returns)

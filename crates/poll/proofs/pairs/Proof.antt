@@ -1,0 +1,40 @@
+-- `pairs` meets its contract. The loop's invariant: the rows below b are filled.
+use Prim.Native.Nat.{_≤_, _-_}
+use native.Mathlib.Omega.{arith}
+use Rattle.poll.specs.Pairs.{Rows}
+use Rattle.poll.proofs.PairLaws.{rows-none, rows-next, rows-all}
+use borrow.Author.Needs.{needs}
+use Rattle.poll.proofs.pairs.Statement.{statement}
+use Rattle.poll.proofs.pairs.Tie as tie
+
+abbrev Inv-loop : tie.InvT-loop
+Inv-loop units table₀ b₀ table b = (b ≤ 8) × Rows b table
+
+abbrev μ-loop : tie.MeasureT-loop
+μ-loop units table₀ b₀ table b = 8 - b
+
+loop-holds : tie.Need-loop-holds Inv-loop μ-loop
+loop-holds c = (omega arith, rows-none _ (c .pre .1))
+
+row-requires : tie.Need-row-requires Inv-loop μ-loop
+row-requires c κs =
+    let l = c .before .before .loop in
+    (c .before .before .before .pre .0, omega arith, l .inv .1 .size)
+
+add-b : tie.Need-add-b Inv-loop μ-loop
+add-b c = search needs
+
+loop-less : tie.Need-loop-less Inv-loop μ-loop
+loop-less c = search needs
+
+loop-again : tie.Need-loop-again Inv-loop μ-loop
+loop-again c =
+    let l = c .before .before .before .loop in
+    (omega arith, rows-next _ _ _ (omega arith) (l .inv .1) (c .row .ensures))
+
+returns : tie.Need-returns Inv-loop μ-loop
+returns c = rows-all (c .before .loop .b) _ (omega arith) (c .before .loop .inv .1)
+
+pub pairs-spec : {M : Type 1} → statement M
+pairs-spec =
+    tie.close (tie.spec Inv-loop μ-loop loop-holds row-requires add-b loop-less loop-again returns)
