@@ -1,6 +1,6 @@
 -- A chunk from its parts. Assumes nothing.
-use Prim.Native.Nat.{ℕ, zero, suc, _+_, _*_, _-_, _/_, _%_, _^_, _≤_, _<_}
-use mathlib.Core.Path.{_≡_, refl, ap, ap₂, sym, _∙_, subst}
+use Prim.Native.Nat.{ℕ, suc, _+_, _*_, _-_, _/_, _%_, _^_, _≤_, _<_}
+use mathlib.Core.Path.{_≡_, ap, ap₂, sym, _∙_, subst}
 use mathlib.Core.List.{List}
 use native.Mathlib.Decide.{decLt}
 use native.Mathlib.Omega.{arith}
@@ -9,7 +9,7 @@ use borrow.Author.Count.{below-none}
 use lib.ListN.{length, set, length-set}
 use lib.Seq.{getD-set-same, getD-set-other}
 use lib.Pow.{pow-add, pow-mono, high}
-use Rattle.theory.specs.Sum.{at}
+use Rattle.theory.specs.Sum.{sum, at}
 use Rattle.digits.specs.Digit.{digit, number}
 use Rattle.digits.proofs.DigitLaws.{digit-under, digit-down, number-lt, number-digit, digit-add, add-lt}
 use Rattle.chunk.specs.Chunk.{Holds, Put}
@@ -64,6 +64,15 @@ hold-number n x f e h = record {
   fits = subst (λ z. z < 2 ^ (8 * n)) (sym e) (number-lt 8 n f h);
   each = λ l k. ap (λ z. digit 8 z l) e ∙ number-digit 8 n f h l k;
 }
+
+-- the same number in each of four digits, and of eight
+pub same-four : (a : ℕ) → a < 256 → Holds 4 (a * 16843009) (λ l. a)
+unfolding number sum
+same-four a h = hold-number 4 _ _ (omega arith) (λ l k. h)
+
+pub same-eight : (a : ℕ) → a < 256 → Holds 8 (a * 72340172838076673) (λ l. a)
+unfolding number sum
+same-eight a h = hold-number 8 _ _ (omega arith) (λ l k. h)
 
 -- a sum where no digit grows too large
 pub hold-plus : (n x y : ℕ) (f g : ℕ → ℕ) → Holds n x f → Holds n y g → ((l : ℕ) → l < n → f l + g l < 256) → Holds n (x + y) (λ l. f l + g l)

@@ -88,6 +88,7 @@ writable q m s w e = go (ℕ-discrete (sizeRefusal q m s) 0)
 pub writable-fits : (q m : ℕ) (s w : List ℕ) → Writable q m s w → Fits q m s w
 writable-fits q m s w y = record {
   alphabet = y .sized .alphabet;
+  low = y .sized .low;
   order = y .sized .high;
   size = omega (arith, y .sized .message);
   below = y .symbols .below;

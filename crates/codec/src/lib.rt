@@ -46,7 +46,7 @@ fn encode_refusal(q: u32, m: u32, message: &[u8], word: &[u8]) -> u32
     if number != 0 {
         return number;
     }
-    if !questions::all_below(q, message) {
+    if !questions::message_below(q, m, message) {
         return 6;
     }
     if word.len() != questions::pow2(m) {

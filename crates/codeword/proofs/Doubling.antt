@@ -1,43 +1,47 @@
 -- One place more of a doubling, and one doubling more of a word. Assumes nothing.
-use Prim.Native.Nat.{ℕ, zero, suc, _+_, _*_, _-_, _%_, _^_, _≤_, _<_}
-use mathlib.Core.Path.{_≡_, refl, ap, ap₂, sym, _∙_}
+use Prim.Native.Nat.{ℕ, suc, _+_, _*_, _-_, _%_, _^_, _≤_, _<_}
+use mathlib.Core.Path.{_≡_, refl, ap, sym, _∙_}
+use mathlib.Core.Bool.{true}
 use mathlib.Core.List.{List}
 use native.Mathlib.Numerals.{add-one}
 use native.Mathlib.Decide.{decLt}
 use native.Mathlib.Omega.{arith}
-use native.Mathlib.Nat.{not-suc-le-zero, mod-eq-of-lt, mod-add-mod, add-assoc, add-zero, pow-succ'}
+use native.Mathlib.Nat.{mod-eq-of-lt, mod-add-mod, add-assoc, add-zero, pow-succ'}
 use lib.ListN.{length, set, length-set}
 use lib.Seq.{getD-set-same, getD-set-other}
 use lib.Pow.{pow-mono}
 use borrow.Author.Count.{below-none, below-more}
 use Rattle.theory.specs.Sum.{sum, at}
+use Rattle.digits.specs.Digit.{digit}
+use Rattle.chunk.specs.Chunk.{Put}
 use Rattle.theory.specs.Code.{linear, symbolAt}
+use Rattle.theory.specs.Question.{isAlphabet}
+use Rattle.theory.proofs.QuestionLaws.{alphabet, alphabet-bounds}
 use Rattle.theory.proofs.CodeLaws.{linear-low, linear-high, symbolAt-lt}
-use Rattle.codeword.specs.Coded.{Coded, Doubled}
+use Rattle.codeword.specs.Coded.{Fits, Coded, Small, Doubled}
 
 pub doubled-none : (q len a : ℕ) (w : List ℕ) → Doubled q len a w w 0
 doubled-none q len a w = record { size = refl; low = λ j l. refl; high = below-none _ }
 
-pub doubled-next : (q len a : ℕ) (w v : List ℕ) (i x : ℕ) → i < len → 2 * len ≤ length w → Doubled q len a w v i → x ≡ (at v i + a) % q
-    → Doubled q len a w (set v (i + len) x) (i + 1)
-doubled-next q len a w v i x l room d e = record {
-  size = simp length-set (d .size);
-  low = λ j h. getD-set-other v (i + len) j x 0 (λ z. absurd (omega (arith, z))) ∙ d .low j h;
-  high = below-more (λ j. at (set v (i + len) x) (j + len) ≡ (at w j + a) % q) i
-      (λ j h. getD-set-other v (i + len) (j + len) x 0 (λ z. absurd (omega (arith, z))) ∙ d .high j h)
-      (getD-set-same v (i + len) x 0 (omega (arith, d .size)) ∙ e ∙ ap (λ y. (y + a) % q) (d .low i l));
+-- eight places more, in the digits of x
+pub doubled-eight : (q len a : ℕ) (w v u : List ℕ) (i n p x : ℕ) → i + 8 ≤ len → n ≡ i + 8 → p ≡ i + len → Doubled q len a w v i → ((l : ℕ) → l < 8 → digit 8 x l ≡ (at v (i + l) + a) % q)
+    → Put 8 x p v u → Doubled q len a w u n
+doubled-eight q len a w v u i n p x room f g d e t = record {
+  size = t .size ∙ d .size;
+  low = λ j h. t .below j (omega (arith, g)) ∙ d .low j h;
+  high = λ j h. place j (omega (arith, f)) (decLt j i);
 }
+  where
+    place : (j : ℕ) → j < i + 8 → Dec (j < i) → at u (j + len) ≡ (at w j + a) % q
+    place j h (yes k) = t .below (j + len) (omega (arith, g)) ∙ d .high j k
+    place j h (no k) =
+        let y : i + (j - i) ≡ j = omega arith in
+        let z : j + len ≡ p + (j - i) = omega (arith, g) in
+        ap (at u) z ∙ t .new (j - i) (omega arith) ∙ e (j - i) (omega arith)
+        ∙ ap (λ c. (at v c + a) % q) y ∙ ap (λ c. (c + a) % q) (d .low j (omega arith))
 
 pub doubled-all : (q len a : ℕ) (w v : List ℕ) (i : ℕ) → i ≡ len → Doubled q len a w v i → Doubled q len a w v len
 doubled-all q len a w v i e d = rw e at d
-
--- the word of the constant alone
-pub coded-none : (q : ℕ) (s w : List ℕ) → at s 0 < q → 0 < length w → Coded q 0 s (set w 0 (at s 0))
-unfolding symbolAt linear sum
-coded-none q s w l h = record { each = λ i k. first i (omega arith) }
-  where
-    first : (i : ℕ) → i ≡ 0 → at (set w 0 (at s 0)) i ≡ (at s 0 + 0) % q
-    first i e = rw e (getD-set-same w 0 (at s 0) 0 h ∙ sym (mod-eq-of-lt l) ∙ ap (λ x. x % q) (sym (add-zero (at s 0))))
 
 module _ (q k : ℕ) (s w v : List ℕ) (d : Coded q k s w) (t : Doubled q (2 ^ k) (at s (suc k)) w v (2 ^ k)) where
   low-half : (i : ℕ) → i < 2 ^ k → at v i ≡ symbolAt q (suc k) (at s) i
@@ -70,13 +74,36 @@ coded-loop q k len a s w v e f d t = rw add-one (coded-next q k s w v d (turn e 
 pub coded-below : (q k : ℕ) (s w : List ℕ) → 0 < q → Coded q k s w → (i : ℕ) → i < 2 ^ k → at w i < q
 coded-below q k s w h d i l = rw (d .each i l) (symbolAt-lt q k (at s) i h)
 
--- the blocks of a word of at most 256 places
-pub block-room : (k m len n : ℕ) → k < m → m ≤ 8 → len ≡ 2 ^ k → 2 ^ m ≤ n → (2 * len ≤ n) × (len ≤ 128)
-block-room k m len n h l e r =
-    (omega (arith, pow-succ' 2 k, pow-mono {i = suc k} {j = m} h), omega (arith, pow-mono {i = k} {j = 7} (omega arith)))
+-- what the doubling of n chunks asks for and gives, where they are the word of k coefficients
+module _ (q k j n : ℕ) (s w : List ℕ) (e : k ≡ j) (f : 8 * n ≡ 2 ^ j) (d : Coded q k s w) where
+  pub grow-asks : Fits q (k + 1) s w → (isAlphabet q ≡ true) × (at s (j + 1) < q) × (16 * n ≤ length w) × (n ≤ 16) × ((i : ℕ) → i < 8 * n → at w i < q)
+  grow-asks h =
+      let b : (2 ≤ q) × (q ≤ 8) = alphabet-bounds q (alphabet q (h .alphabet)) in
+      let g : 2 ^ (k + 1) ≡ 16 * n = ap (λ x. 2 ^ x) (add-one k) ∙ pow-succ' 2 k ∙ ap (λ x. 2 * 2 ^ x) e ∙ omega (arith, f) in (
+        h .alphabet,
+        h .below (j + 1) (omega arith),
+        omega (arith, h .room),
+        omega (arith, g, pow-mono {i = k + 1} {j = 8} (h .order)),
+        λ i l. coded-below q k s w (omega arith) d i (omega (arith, f, ap (λ x. 2 ^ x) e)),
+      )
 
-pub block-next : (k len : ℕ) → len ≡ 2 ^ k → 2 * len ≡ 2 ^ (k + 1)
-block-next k len e = rw (add-one, e) (sym (pow-succ' 2 k))
+  pub grow-gives : (v : List ℕ) → Doubled q (8 * n) (at s (j + 1)) w v (8 * n) → (length v ≡ length w) × Coded q (k + 1) s v
+  grow-gives v t = (t .size, coded-loop q k (8 * n) (at s (j + 1)) s w v (f ∙ ap (λ x. 2 ^ x) (sym e)) (ap (λ x. at s (x + 1)) (sym e)) d t)
+
+-- the word of j of the m coefficients fits where the whole word does
+pub fits-less : (q m j : ℕ) (s w v : List ℕ) → 2 ≤ j → j ≤ m → length v ≡ length w → Fits q m s w → Fits q j s v
+fits-less q m j s w v t l e h = record {
+  alphabet = h .alphabet;
+  low = t;
+  order = omega (arith, h .order);
+  size = omega (arith, h .size);
+  below = λ k i. h .below k (omega arith);
+  room = omega (arith, h .room, pow-mono {i = j} {j = m} l);
+}
+
+pub fits-small : (q m : ℕ) (s w : List ℕ) → Fits q m s w → Small (suc m) s
+fits-small q m s w h =
+    record { size = h .size; below = λ k l. omega (arith, h .below k l, alphabet-bounds q (alphabet q (h .alphabet))) }
 
 pub coded-all : (q m k : ℕ) (s w : List ℕ) → k ≡ m → Coded q k s w → Coded q m s w
 coded-all q m k s w e d = rw e at d

@@ -4,13 +4,14 @@ use mathlib.Core.Path.{_≡_}
 use mathlib.Core.List.{List}
 use lib.ListN.{length}
 use Rattle.theory.specs.Sum.{at}
-use Rattle.theory.specs.Code.{symbolAt}
+use Rattle.theory.specs.Code.{linear, symbolAt}
 use mathlib.Core.Bool.{true}
 use Rattle.theory.specs.Question.{isAlphabet}
 
 -- a message whose word fits the buffer
 pub record Fits (q m : ℕ) (s w : List ℕ) : Type 0 where
   pub alphabet : isAlphabet q ≡ true
+  pub low : 2 ≤ m
   pub order : m ≤ 8
   pub size : m < length s
   pub below : (k : ℕ) → k < suc m → at s k < q
@@ -19,6 +20,15 @@ pub record Fits (q m : ℕ) (s w : List ℕ) : Type 0 where
 -- the first 2 ^ m places of w hold the word of s
 pub record Coded (q m : ℕ) (s w : List ℕ) : Type 0 where
   pub each : (i : ℕ) → i < 2 ^ m → at w i ≡ symbolAt q m (at s) i
+
+-- a list that starts with n symbols of some alphabet
+pub record Small (n : ℕ) (s : List ℕ) : Type 0 where
+  pub size : n ≤ length s
+  pub below : (k : ℕ) → k < n → at s k < 8
+
+-- symbol i of the word of s before its remainder is taken
+unfoldable pub unreduced : ℕ → (ℕ → ℕ) → ℕ → ℕ
+unreduced m s i = s 0 + linear m (λ k. s (suc k)) i
 
 -- the places from len on up to len + i hold those below with a added, and those below len are as in w
 pub record Doubled (q len a : ℕ) (w v : List ℕ) (i : ℕ) : Type 0 where

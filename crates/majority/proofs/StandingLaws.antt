@@ -68,6 +68,7 @@ standing-all q m w s k low e r = rw e at r
 pub standing-fits : (q m : ℕ) (w s c : List ℕ) (low : ℕ) → Received q m w → Standing q m w s m low → 2 ^ m ≤ length c → Fits q m s c
 standing-fits q m w s c low r t e = record {
   alphabet = r .alphabet;
+  low = r .low;
   order = r .high;
   size = omega (arith, t .size, r .high);
   below = below;

@@ -64,6 +64,7 @@ module _ (q m constant : ℕ) (message word w₀ w : List ℕ) (s : Sendable q m
   pub copy-fits : length w₀ ≡ 9 → Fits q m w word
   copy-fits e = record {
     alphabet = s .alphabet;
+    low = order-bounds m (s .order) .0;
     order = order-bounds m (s .order) .1;
     size = omega (arith, p .size, order-bounds m (s .order));
     below = λ k l. rw (p .each k (omega (arith, s .symbols .size))) (new-symbols .below k l);

@@ -182,7 +182,7 @@ impl Sender {
         if message.len() != self.m as usize + 1 {
             return 5;
         }
-        if !questions::all_below(self.q, message) {
+        if !questions::message_below(self.q, self.m, message) {
             return 6;
         }
         if word.len() != questions::pow2(self.m) {

@@ -1,6 +1,7 @@
 -- `encode_refusal` meets its contract, by the answers to the questions asked so far.
 use mathlib.Core.Path.{_≡_, sym, _∙_}
 use mathlib.Core.Bool.{true}
+use native.Mathlib.Numerals.{add-one}
 use borrow.Author.Needs.{needs}
 use borrow.Author.Tests.{not-true, not-false}
 use Rattle.theory.specs.Question.{allBelow}
@@ -15,7 +16,7 @@ first : (c : tie.Else1) → sizeRefusal (c .before .before .before .before .args
 first c = sym (c .before .size-refusal .ensures) ∙ c .if1 .left
 
 below : (c : tie.Else2) → allBelow (c .before .before .before .before .before .before .args .q) (c .before .before .before .before .before .before .args .message .now) ≡ true
-below c = sym (c .before .all-below .ensures) ∙ not-false _ (c .if2 .left)
+below c = sym (c .before .message-below .ensures) ∙ not-false _ (c .if2 .left)
 
 size-refusal-requires : tie.Need-size-refusal-requires
 size-refusal-requires c κs = search needs
@@ -25,12 +26,14 @@ returns c =
     let e = c .before .size-refusal .ensures in
     e ∙ sym (encode-never _ _ _ _ (λ z. c .if1 .taken (e ∙ z)))
 
-all-below-requires : tie.Need-all-below-requires
-all-below-requires c κs = sized _ _ _ (first c) .some
+message-below-requires : tie.Need-message-below-requires
+message-below-requires c κs =
+    let z = sized _ _ _ (first c) in
+    (z .alphabet, z .low, z .high, z .message ∙ sym (add-one _))
 
 returns-2 : tie.Need-returns-2
 returns-2 c =
-    sym (encode-later _ _ _ _ (first (c .before .before)) ∙ ask-no _ _ _ (sym (c .before .all-below .ensures) ∙ not-true _ (c .if2 .taken)))
+    sym (encode-later _ _ _ _ (first (c .before .before)) ∙ ask-no _ _ _ (sym (c .before .message-below .ensures) ∙ not-true _ (c .if2 .taken)))
 
 pow2-requires : tie.Need-pow2-requires
 pow2-requires c κs = sized _ _ _ (first (c .before .before)) .high
@@ -48,4 +51,4 @@ returns-4 c =
 pub encode-refusal-spec : {M : Type 1} → statement M
 encode-refusal-spec =
     tie.close
-    (tie.spec size-refusal-requires returns all-below-requires returns-2 pow2-requires returns-3 returns-4)
+    (tie.spec size-refusal-requires returns message-below-requires returns-2 pow2-requires returns-3 returns-4)

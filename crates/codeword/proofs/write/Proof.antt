@@ -1,91 +1,80 @@
--- `write` meets its contract. The loop's invariant: the first 2^k places hold the word of the first k coefficients.
-use Prim.Native.Nat.{_≤_, _-_, _+_, _^_}
-use mathlib.Core.Path.{_≡_, refl, _∙_, sym}
+-- `write` meets its contract: each step has the word of some more coefficients, up to the one that returns.
+use mathlib.Core.Path.{refl, _∙_}
 use native.Mathlib.Nat.{le-refl}
 use native.Mathlib.Omega.{arith}
-use lib.ListN.{length, length-set}
-use lib.Pow.{pow-pos}
-use Rattle.codeword.specs.Coded.{Coded}
-use Rattle.codeword.proofs.Doubling.{coded-none, coded-loop, coded-below, coded-all, block-room, block-next}
-use Rattle.theory.proofs.QuestionLaws.{alphabet, alphabet-bounds}
+use Rattle.codeword.proofs.Doubling.{fits-less, coded-all}
 use borrow.Author.Needs.{needs}
 use Rattle.codeword.proofs.write.Statement.{statement}
 use Rattle.codeword.proofs.write.Tie as tie
 
-abbrev Inv-loop : tie.InvT-loop
-Inv-loop q m message word₀ len₀ k₀ word len k = (k ≤ m) × (len ≡ 2 ^ k) × (length word ≡ length word₀) × Coded q k message word
+write-four-requires : tie.Need-write-four-requires
+write-four-requires c κs = fits-less _ (c .before .before .before .before .args .m) 2 _ _ _ (omega arith) (omega (arith, c .before .before .before .before .pre .low)) (refl) (c .before .before .before .before .pre)
 
-abbrev μ-loop : tie.MeasureT-loop
-μ-loop q m message word₀ len₀ k₀ word len k = m - k
+same-length : tie.Need-same-length
+same-length c = search needs
 
-shared-slice-read-word : tie.Need-shared-slice-read-word Inv-loop μ-loop
-shared-slice-read-word c = omega (arith, c .before .before .before .pre .size)
+returns : tie.Need-returns
+returns c =
+    let d = c .before .before .write-four .ensures in
+    (d .0, coded-all _ _ 2 _ _ (omega arith) (d .1))
 
-slice-write-word : tie.Need-slice-write-word Inv-loop μ-loop
-slice-write-word c = omega (arith, pow-pos (c .before .before .before .args .m), c .before .before .before .pre .room)
+write-eight-requires : tie.Need-write-eight-requires
+write-eight-requires c κs = fits-less _ (c .before .before .before .before .args .m) 3 _ _ _ (omega arith) (omega (arith, c .before .before .before .before .pre .low)) (refl) (c .before .before .before .before .pre)
 
-loop-holds : tie.Need-loop-holds Inv-loop μ-loop
-loop-holds c =
-    let s = c .before .before .before in
-    (omega arith, refl, refl, coded-none (s .args .q) (s .args .message .now) (s .args .word .now) (s .pre .below 0 (omega arith)) (omega (arith, pow-pos (s .args .m), s .pre .room)))
+same-length-2 : tie.Need-same-length-2
+same-length-2 c = search needs
 
-cast-double : tie.Need-cast-double Inv-loop μ-loop
-cast-double c = search needs
+returns-2 : tie.Need-returns-2
+returns-2 c =
+    let d = c .before .before .before .write-eight .ensures in
+    (d .0, coded-all _ _ 3 _ _ (omega arith) (d .1))
 
-add-double : tie.Need-add-double Inv-loop μ-loop
-add-double c = search needs
+grow-requires : tie.Need-grow-requires
+grow-requires c κs =
+    let d = c .before .before .before .before .write-eight .ensures in
+    (omega arith, fits-less _ (c .before .before .before .before .before .before .before .before .before .args .m) 4 _ _ _ (omega arith) (omega (arith, c .before .before .before .before .before .before .before .before .before .pre .low)) (d .0) (c .before .before .before .before .before .before .before .before .before .pre), d .1)
 
-shared-slice-read-double : tie.Need-shared-slice-read-double Inv-loop μ-loop
-shared-slice-read-double c = omega (arith, c .before .before .before .before .before .before .pre .size)
+same-length-3 : tie.Need-same-length-3
+same-length-3 c = search needs
 
-double-requires : tie.Need-double-requires Inv-loop μ-loop
-double-requires c κs =
-    let s = c .before .before .before .before .before .before .before in
-    let l = c .before .before .before .loop in
-    let r = block-room (l .k) (s .args .m) (l .len) (length (l .word)) (omega arith) (s .pre .order) (l .inv .1) (omega (arith, s .pre .room, simp length-set at (l .inv .2))) in
-    let b = alphabet-bounds (s .args .q) (alphabet (s .args .q) (s .pre .alphabet)) in
-    (s .pre .alphabet, s .pre .below (l .k + 1) (omega arith), r .0, r .1, λ j h. coded-below (s .args .q) (l .k) (s .args .message .now) (l .word) (omega arith) (l .inv .3) j (omega (arith, l .inv .1)))
+returns-3 : tie.Need-returns-3
+returns-3 c =
+    let d = c .before .before .before .grow .ensures in
+    (d .0 ∙ c .before .before .before .before .before .before .before .before .write-eight .ensures .0, coded-all _ _ 4 _ _ (omega arith) (d .1))
 
-mul-len : tie.Need-mul-len Inv-loop μ-loop
-mul-len c =
-    let s = c .before .before .before .before .before .before .before .before .before .before in
-    let l = c .before .before .before .before .before .before .loop in
-    omega (arith, block-room (l .k) (s .args .m) (l .len) (2 ^ s .args .m) (omega arith) (s .pre .order) (l .inv .1) (le-refl _))
+grow-requires-2 : tie.Need-grow-requires-2
+grow-requires-2 c κs =
+    let d = c .before .before .before .before .grow .ensures in
+    let e = c .before .before .before .before .before .before .before .before .before .write-eight .ensures in
+    (omega arith, fits-less _ (c .before .before .before .before .before .before .before .before .before .before .before .before .before .before .args .m) 5 _ _ _ (omega arith) (omega (arith, c .before .before .before .before .before .before .before .before .before .before .before .before .before .before .pre .low)) (d .0 ∙ e .0) (c .before .before .before .before .before .before .before .before .before .before .before .before .before .before .pre), d .1)
 
-add-k : tie.Need-add-k Inv-loop μ-loop
-add-k c = search needs
+grow-on-requires : tie.Need-grow-on-requires
+grow-on-requires c κs =
+    let d = c .before .before .before .grow2 .ensures in
+    let e = c .before .before .before .before .before .before .before .before .grow .ensures in
+    let f = c .before .before .before .before .before .before .before .before .before .before .before .before .before .write-eight .ensures in
+    (omega (arith, c .before .before .before .before .before .before .before .before .before .before .before .before .before .before .before .before .before .before .pre .low), fits-less _ (c .before .before .before .before .before .before .before .before .before .before .before .before .before .before .before .before .before .before .args .m) (c .before .before .before .before .before .before .before .before .before .before .before .before .before .before .before .before .before .before .args .m) _ _ _ (c .before .before .before .before .before .before .before .before .before .before .before .before .before .before .before .before .before .before .pre .low) (le-refl _) (d .0 ∙ e .0 ∙ f .0) (c .before .before .before .before .before .before .before .before .before .before .before .before .before .before .before .before .before .before .pre), d .1)
 
-loop-less : tie.Need-loop-less Inv-loop μ-loop
-loop-less c = search needs
+same-length-4 : tie.Need-same-length-4
+same-length-4 c = search needs
 
-loop-again : tie.Need-loop-again Inv-loop μ-loop
-loop-again c =
-    let l = c .before .before .before .before .before .before .loop in
-    let d = c .before .before .double .ensures in
-    (omega arith, block-next (l .k) (l .len) (l .inv .1), d .size ∙ l .inv .2, coded-loop _ (l .k) (l .len) _ _ (l .word) _ (l .inv .1) refl (l .inv .3) d)
-
-same-length : tie.Need-same-length Inv-loop μ-loop
-same-length c = c .before .loop .inv .2 ∙ simp length-set
-
-returns : tie.Need-returns Inv-loop μ-loop
-returns c = (c .before .loop .inv .2 ∙ simp length-set, coded-all _ _ (c .before .loop .k) _ _ (omega arith) (c .before .loop .inv .3))
+returns-4 : tie.Need-returns-4
+returns-4 c = search needs
 
 pub write-spec : {M : Type 1} → statement M
 write-spec =
     tie.close
     (tie.spec
-    Inv-loop
-    μ-loop
-    shared-slice-read-word
-    slice-write-word
-    loop-holds
-    cast-double
-    add-double
-    shared-slice-read-double
-    double-requires
-    mul-len
-    add-k
-    loop-less
-    loop-again
+    write-four-requires
     same-length
-    returns)
+    returns
+    write-eight-requires
+    same-length-2
+    returns-2
+    grow-requires
+    same-length-3
+    returns-3
+    grow-requires-2
+    grow-on-requires
+    same-length-4
+    returns-4)

@@ -8,7 +8,7 @@ use Rattle.theory.specs.Question.{isMessageSize, allBelow}
 use Rattle.theory.proofs.QuestionLaws.{ask-on, ask-no, message-yes, message-no, word-yes, word-no, order-bounds}
 use Rattle.session.specs.Slot.{slots}
 use Rattle.session.specs.Sending.{soundSender, sendRefusal}
-use Rattle.session.proofs.SoundLaws.{sender-parts, alphabet-positive}
+use Rattle.session.proofs.SoundLaws.{sender-parts}
 use Rattle.session.proofs.Sender.refusal.Statement.{statement}
 use Rattle.session.proofs.Sender.refusal.Tie as tie
 
@@ -22,7 +22,7 @@ size : (c : tie.Else3) → let s = c .before .before .before .before .before .be
 size c = message-yes _ _ (c .if3 .left)
 
 below : (c : tie.Else4) → let s = c .before .before .before .before .before .before .before .before .before .before .args in allBelow (s .self .q) (s .message .now) ≡ true
-below c = sym (c .before .all-below .ensures) ∙ not-false _ (c .if4 .left)
+below c = sym (c .before .message-below .ensures) ∙ not-false _ (c .if4 .left)
 
 is-sound-requires : tie.Need-is-sound-requires
 is-sound-requires c κs = search needs
@@ -47,15 +47,18 @@ returns-3 c =
     let d = c .before .before in
     sym (ask-on _ _ _ (sound (d .before .before)) ∙ ask-on _ _ _ (room d) ∙ ask-no _ _ _ (message-no _ _ (c .if3 .taken)))
 
-all-below-requires : tie.Need-all-below-requires
-all-below-requires c κs = alphabet-positive _ (sender-parts _ (sound (c .before .before .before .before)) .alphabet)
+message-below-requires : tie.Need-message-below-requires
+message-below-requires c κs =
+    let p = sender-parts _ (sound (c .before .before .before .before)) in
+    let b = order-bounds _ (p .order) in
+    (p .alphabet, b .0, b .1, c .if3 .left)
 
 returns-4 : tie.Need-returns-4
 unfolding sendRefusal
 returns-4 c =
     let d = c .before .before in
     let e = d .before .before in
-    sym (ask-on _ _ _ (sound (e .before .before)) ∙ ask-on _ _ _ (room e) ∙ ask-on _ _ _ (size d) ∙ ask-no _ _ _ (sym (c .before .all-below .ensures) ∙ not-true _ (c .if4 .taken)))
+    sym (ask-on _ _ _ (sound (e .before .before)) ∙ ask-on _ _ _ (room e) ∙ ask-on _ _ _ (size d) ∙ ask-no _ _ _ (sym (c .before .message-below .ensures) ∙ not-true _ (c .if4 .taken)))
 
 pow2-requires : tie.Need-pow2-requires
 pow2-requires c κs = order-bounds _ (sender-parts _ (sound (c .before .before .before .before .before .before)) .order) .1
@@ -86,7 +89,7 @@ refusal-spec =
     cast-if3
     add-if3
     returns-3
-    all-below-requires
+    message-below-requires
     returns-4
     pow2-requires
     returns-5

@@ -1,0 +1,29 @@
+-- `write_eight` meets its contract: the digits that are written are the places of the word.
+use native.Mathlib.Omega.{arith}
+use Rattle.codeword.proofs.Lanes.{coded-put}
+use Rattle.codeword.proofs.Doubling.{fits-small}
+use borrow.Author.Needs.{needs}
+use Rattle.codeword.proofs.write_eight.Statement.{statement}
+use Rattle.codeword.proofs.write_eight.Tie as tie
+
+first-eight-requires : tie.Need-first-eight-requires
+first-eight-requires c κs = fits-small _ 3 _ _ (c .before .before .pre)
+
+reduced-requires : tie.Need-reduced-requires
+reduced-requires c κs = search needs
+
+put-eight-requires : tie.Need-put-eight-requires
+put-eight-requires c κs = search needs
+
+same-length : tie.Need-same-length
+same-length c = search needs
+
+returns : tie.Need-returns
+returns c =
+    let put = c .before .before .put-eight .ensures in
+    let reduced = c .before .before .before .before .reduced .ensures in
+    let first = c .before .before .before .before .before .first-eight .ensures in
+    (put .size, coded-put _ 3 8 _ _ _ _ _ (omega arith) reduced first put)
+
+pub write-eight-spec : {M : Type 1} → statement M
+write-eight-spec = tie.close (tie.spec first-eight-requires reduced-requires put-eight-requires same-length returns)
