@@ -28,7 +28,11 @@ fn reads(q: u32, m: u32, kind: Kind) -> Result<usize, String> {
             let mut message = vec![ENTRY; m as usize + 1];
             (call(q, m, &mut message, word), message)
         };
-        let others = [("read (a)", calls::plain_read as Read), ("read (b)", calls::safe_read), ("read (c)", calls::safe_read_each)];
+        let others = [
+            ("read (a)", calls::plain_read as Read),
+            ("read (b)", calls::safe_read),
+            ("read (c)", calls::safe_read_each),
+        ];
         for (name, call) in others {
             same(name, format!("q {q}, m {m}, {word:?}"), answer(proved::compare_decode), answer(call))?;
         }
@@ -43,7 +47,12 @@ fn writes(q: u32, m: u32) -> Result<usize, String> {
             let mut word = vec![ENTRY; 1 << m];
             (call(q, m, message, &mut word), word)
         };
-        for (name, call) in [("plain write", calls::plain_write as Write), ("best safe write", calls::safe_write)] {
+        let others = [
+            ("write (a)", calls::plain_write as Write),
+            ("write (b)", calls::safe_write),
+            ("write (c)", calls::safe_write_each),
+        ];
+        for (name, call) in others {
             same(name, format!("q {q}, m {m}, {message:?}"), answer(proved::compare_encode), answer(call))?;
         }
     }

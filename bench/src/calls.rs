@@ -40,6 +40,11 @@ pub fn safe_write(q: u32, m: u32, message: &[u8], word: &mut [u8]) -> u64 {
     written(safe::write(q, m, message, word))
 }
 
+#[inline(never)]
+pub fn safe_write_each(q: u32, m: u32, message: &[u8], word: &mut [u8]) -> u64 {
+    written(safe::write_each(q, m, message, word))
+}
+
 /// 100 + symbol for sure and 104 for unsure, with both sums in the slice of two.
 #[inline(never)]
 pub fn soft_vote(m: u32, k: u32, re: &[f32], im: &[f32], sums: &mut [f32]) -> u32 {

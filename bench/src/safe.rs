@@ -1,6 +1,7 @@
 //! The best safe Rust reader and writer: pairs by blocks, no division, the codeword by doubling, the distance from the tally.
-//! A tally is eight counters of eight bits in one u64. Reader (b) has one body for all codes, q and m being arguments; reader
-//! (c) is the same with a body of its own for each of the 21 codes, with constant lengths, which const generics write.
+//! A tally is eight counters of eight bits in one u64. Reader and writer (b) have one body for all codes, q and m being
+//! arguments; (c) are the same with constant lengths, which const generics write: a reader for each of the 21 codes, a writer
+//! for each of the seven lengths.
 
 use crate::questions::{all_below, is_alphabet, is_order, yes, Refusal};
 use crate::Reading;
@@ -156,6 +157,21 @@ pub fn read_each(q: u32, m: u32, message: &mut [u8], word: &[u8]) -> Result<Read
     }
 }
 
+/// Writer (b): writes the word of a message, or gives the number of the first question answered no: 1, 2, 5, 6, 7.
+#[inline(always)]
+pub fn write(q: u32, m: u32, message: &[u8], word: &mut [u8]) -> Result<(), Refusal> {
+    yes(is_alphabet(q), 1)?;
+    yes(is_order(m), 2)?;
+    yes(message.len() == m as usize + 1, 5)?;
+    yes(all_below(q, message), 6)?;
+    yes(word.len() == 1 << m, 7)?;
+    word[0] = message[0];
+    for (k, &a) in message[1..].iter().enumerate() {
+        double(1 << k, a, q as u8 - 1, word);
+    }
+    Ok(())
+}
+
 /// Writes the word of N symbols for a message of S.
 #[inline(always)]
 fn write_sized<const N: usize, const S: usize>(q: u32, message: &[u8], word: &mut [u8]) -> Result<(), Refusal> {
@@ -173,9 +189,9 @@ fn write_sized<const N: usize, const S: usize>(q: u32, message: &[u8], word: &mu
     Ok(())
 }
 
-/// Writes the word of a message, or gives the number of the first question answered no: 1, 2, 5, 6, 7.
+/// Writer (c): as (b), with a body for each length.
 #[inline(always)]
-pub fn write(q: u32, m: u32, message: &[u8], word: &mut [u8]) -> Result<(), Refusal> {
+pub fn write_each(q: u32, m: u32, message: &[u8], word: &mut [u8]) -> Result<(), Refusal> {
     yes(is_alphabet(q), 1)?;
     match m {
         2 => write_sized::<4, 3>(q, message, word),

@@ -98,9 +98,25 @@ pub fn decode() {
         each.map(|((q, m, name, _), times)| Ratio::new(times[other], times[0], &place(q, m, name))).collect()
     };
     let (plain, safe, each) = (ratios(1), ratios(2), ratios(3));
-    head(&["q", "m", "ns, clean", "(a)", "(b)", "(c)", "ns, light", "(a)", "(b)", "(c)", "ns, doubtful", "(a)", "(b)", "(c)"]);
+    head(&[
+        "q",
+        "m",
+        "ns, clean",
+        "(a)",
+        "(b)",
+        "(c)",
+        "ns, light",
+        "(a)",
+        "(b)",
+        "(c)",
+        "ns, doubtful",
+        "(a)",
+        "(b)",
+        "(c)",
+    ]);
     for (first, (q, m)) in (0..).step_by(KINDS.len()).zip(codes()) {
-        let cells = |i: usize| [format!("{:.0}", times[i][0]), plain[i].to_string(), safe[i].to_string(), each[i].to_string()];
+        let cells =
+            |i: usize| [format!("{:.0}", times[i][0]), plain[i].to_string(), safe[i].to_string(), each[i].to_string()];
         row([q, m].map(|x| x.to_string()).into_iter().chain((first..first + KINDS.len()).flat_map(cells)));
     }
     least("to (a)", &plain);
@@ -120,16 +136,21 @@ pub fn encode() {
             passes::write(proved::compare_encode, q, m, messages),
             passes::write(calls::plain_write, q, m, messages),
             passes::write(calls::safe_write, q, m, messages),
+            passes::write(calls::safe_write_each, q, m, messages),
         ]
     });
-    head(&["q", "m", "ns", "plain", "best safe"]);
-    let mut ratios = Vec::new();
-    for ([proved, plain, safe], (q, m)) in times.into_iter().zip(codes()) {
-        let ratio = |other| Ratio::new(other, proved, &format!("q {q}, m {m}"));
-        row([q.to_string(), m.to_string(), format!("{proved:.1}"), ratio(plain).to_string(), ratio(safe).to_string()]);
-        ratios.push(ratio(safe));
+    let ratios = |other: usize| -> Vec<Ratio> {
+        let each = times.iter().zip(codes());
+        each.map(|(times, (q, m))| Ratio::new(times[other], times[0], &format!("q {q}, m {m}"))).collect()
+    };
+    let (plain, safe, each) = (ratios(1), ratios(2), ratios(3));
+    head(&["q", "m", "ns", "(a)", "(b)", "(c)"]);
+    for (i, (q, m)) in codes().enumerate() {
+        let cells = [&plain, &safe, &each].map(|ratios| ratios[i].to_string());
+        row([q.to_string(), m.to_string(), format!("{:.1}", times[i][0])].into_iter().chain(cells));
     }
-    verdict(1.0, "to the best safe writer", &ratios);
+    verdict(1.0, "to (b)", &safe);
+    verdict(1.0, "to (c)", &each);
 }
 
 /// One soft vote and the soft read: every m.
