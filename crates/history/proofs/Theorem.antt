@@ -17,7 +17,7 @@ use Rattle.theory.specs.Turn.{altered}
 use Rattle.theory.specs.Nearest.{nearest, isReadable, nearMessage, nearDistance}
 use Rattle.theory.specs.Question.{isAlphabet, isOrder}
 use Rattle.theory.proofs.TurnLaws.{never-both, altered-set, nearest-turned, subMod-turned}
-use Rattle.theory.proofs.NearestLaws.{found-near, readable}
+use Rattle.theory.proofs.NearestLaws.{readable}
 use Rattle.session.specs.declared.Sender.{Sender}
 use Rattle.session.specs.declared.Receiver.{Receiver}
 use Rattle.session.specs.declared.Delivery.{Delivery}
@@ -28,7 +28,7 @@ use Rattle.session.specs.declared.Zone.the-variants.{Known, Unknown}
 use Rattle.session.specs.Slot.{slots, slotTime}
 use Rattle.session.specs.Sending.{openSender, sendRefusal, sendConstant}
 use Rattle.session.specs.Receiving.{openReceiver, isBelow, isMissing, receiveRefusal, missRefusal, receiveConstant, zoneFrom, zoneSymbol, receiveDelivery, zoneValues, deliveryValues, nextReceiver}
-use Rattle.session.proofs.SoundLaws.{sender-opened, receiver-opened, sender-sound, receiver-sound, alphabet-positive, readable-found}
+use Rattle.session.proofs.SoundLaws.{sender-opened, receiver-opened, sender-sound, receiver-sound, alphabet-positive, near-symbols}
 use Rattle.history.specs.Calls.{Send, SenderSlot, senderCall, senderSlot, senderSlots, senderAfter, ReceiverCall, ReceiverSlot, read, doubtful, missed, receiverCall, receiverSlot, receiverSlots, receiverAfter}
 use Rattle.history.specs.Whole.{wordOf, Such, Accepted, Unmeasured, first, afterMissed, afterDoubtful, WholeSessions}
 use Rattle.history.proofs.Run.{before, before-next, Chain, chain, chain-made, chain-before, chain-end}
@@ -81,10 +81,6 @@ read-from q m n s word message delivery h (r, e, v) =
       wrong = ap (λ x. x .wrong) d ∙ ap₂ (λ a c. nearDistance a c word) (h .isQ) (h .isM);
       time = ap (λ x. x .time) d ∙ ap slotTime (h .used);
     }
-
--- the message read has m + 1 symbols
-near-symbols : (q m : ℕ) (word : List ℕ) → isReadable q m word ≡ true → Symbols q (suc m) (nearMessage q m word)
-near-symbols q m word e = found-near q m word _ (readable-found q m word e) .0
 
 -- what a slot read says in place 0
 read-place : (q m : ℕ) (reference : Reference) (used : ℕ) (word message : List ℕ) (delivery : Delivery) → ReadFrom q m reference used word message delivery

@@ -17,9 +17,26 @@ use Rattle.text.proofs.PutLaws.{put-byte}
 use Rattle.lines.specs.Line.{slot, miss, bad, isDigit, isDigits, isSlot, isMiss, wordOf, readLine}
 
 -- the digits of a line from place i on
-pub digits-step : (line : List ℕ) (i : ℕ) (b : Bool) → i < length line → b ≡ isDigit (at line i) → isDigits (drop i line) ≡ b && isDigits (drop (i + 1) line)
+digits-step : (line : List ℕ) (i : ℕ) (b : Bool) → i < length line → b ≡ isDigit (at line i) → isDigits (drop i line) ≡ b && isDigits (drop (i + 1) line)
 unfolding isDigits
 digits-step line i b h e = ap isDigits (drop-cons line i 0 h) ∙ ap (λ x. x && isDigits (drop (suc i) line)) (sym e) ∙ ap (λ k. b && isDigits (drop k line)) (sym (add-one i))
+
+-- one byte more asked, and all
+pub digits-next : (line : List ℕ) (i : ℕ) (all b : Bool) → i < length line → b ≡ isDigit (at line i) → isDigits line ≡ all && isDigits (drop i line)
+    → isDigits line ≡ (all && b) && isDigits (drop (i + 1) line)
+digits-next line i all b h e p = p ∙ ap (λ x. all && x) (digits-step line i b h e) ∙ by all
+  where
+    by : (a : Bool) → a && (b && isDigits (drop (i + 1) line)) ≡ (a && b) && isDigits (drop (i + 1) line)
+    by true = refl
+    by false = refl
+
+pub digits-all : (line : List ℕ) (i : ℕ) (all : Bool) → length line ≤ i → isDigits line ≡ all && isDigits (drop i line) → all ≡ isDigits line
+unfolding isDigits
+digits-all line i all h p = sym (p ∙ ap (λ l. all && isDigits l) (drop-of-length-le line h) ∙ by all)
+  where
+    by : (a : Bool) → a && true ≡ a
+    by true = refl
+    by false = refl
 
 -- each byte of a line of digits is one
 pub digit-at : (line : List ℕ) → isDigits line ≡ true → (i : ℕ) → i < length line → (48 ≤ at line i) × (at line i ≤ 51)

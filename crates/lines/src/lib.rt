@@ -3,6 +3,7 @@ ghost use mathlib.Core.Path.{_≡_};
 ghost use mathlib.Core.Bool.{true};
 ghost use lib.ListN.{length};
 ghost use Rattle.lines.specs.Line.{isDigit, isDigits, isSlot, wordOf, readLine, lineOf};
+ghost use Rattle.lines.specs.Ending.{lineLength};
 
 // What a line is.
 pub enum Kind {
@@ -18,16 +19,27 @@ fn is_digit(b: u8) -> bool
     b'0' <= b && b <= b'3'
 }
 
-// Whether every byte is a digit 0 to 3.
-fn is_digits(line: &[u8]) -> bool
+// Whether every byte is a digit 0 to 3. With no early answer the compiler asks many bytes at once.
+pub fn is_digits(line: &[u8]) -> bool
     ensures { λ r. ⌜ r ≡ isDigits (now (line .entry)) ⌝ }
 {
+    let mut all = true;
     for i in 0..line.len() {
-        if !is_digit(line[i]) {
-            return false;
+        all = all & is_digit(line[i]);
+    }
+    all
+}
+
+// How many bytes stand before the first newline: all where there is none.
+pub fn line_length(bytes: &[u8]) -> usize
+    ensures { λ r. ⌜ r ≡ lineLength (now (bytes .entry)) ⌝ }
+{
+    for i in 0..bytes.len() {
+        if bytes[i] == b'\n' {
+            return i;
         }
     }
-    true
+    bytes.len()
 }
 
 // What the line is: 16 digits 0 to 3, `-`, or anything else.
@@ -54,7 +66,7 @@ pub fn fill_word(line: &[u8], word: &mut [u8])
     requires { ⌜ (isSlot (now line) ≡ true) × (length (now word) ≡ 16) ⌝ }
     ensures { λ r. ⌜ now (word .exit) ≡ wordOf (now (line .entry)) ⌝ }
 {
-    for i in 0..line.len() {
+    for i in 0..16 {
         word[i] = line[i] - b'0';
     }
 }

@@ -16,7 +16,6 @@ use Rattle.theory.specs.Modular.{subMod}
 use Rattle.theory.specs.Nearest.{isReadable, nearMessage}
 use Rattle.theory.specs.Question.{ask, isMessageSize, allBelow, Answer, accepted, refused, answer, after}
 use Rattle.theory.proofs.QuestionLaws.{message-yes, below-all, after-yes, after-no, answer-accepted, answer-refused}
-use Rattle.theory.proofs.NearestLaws.{found-near}
 use Rattle.strap.specs.Strap.{rateOf, unpackRefusal, unpackAnswer, unpacked}
 use Rattle.strap.specs.declared.Report.{Report}
 use Rattle.strap.specs.declared.Unpacked.{Unpacked}
@@ -37,7 +36,7 @@ use Rattle.session.specs.declared.Missed.the-variants as M
 use Rattle.session.specs.Slot.{slots, slotTime}
 use Rattle.lines.specs.Line.{Line, slot, miss, bad}
 use Rattle.listing.specs.Listing.{readingText, doubtfulText, missedText, overText, badText, blank, deliveryText, lineText, lineSession, lineEnds}
-use Rattle.session.proofs.SoundLaws.{ReceiveYes, receive-yes, receive-doubtful, miss-yes, readable-found}
+use Rattle.session.proofs.SoundLaws.{ReceiveYes, receive-yes, receive-doubtful, miss-yes, near-symbols}
 
 -- what Receive changes, by the number
 pub after-read : {A : Type 0} (n : ℕ) (x y z : A) → n ≡ 0 → afterReceive n x y z ≡ x
@@ -65,9 +64,6 @@ same-reading : (ms rate : ℕ) (z : Zone) (wrong margin ms′ rate′ : ℕ) (z�
 same-reading ms rate z wrong margin ms′ rate′ z′ wrong′ margin′ a b c d e = cc
 
 -- the message that Receive leaves can be unpacked
-near-symbols : (q m : ℕ) (w : List ℕ) → isReadable q m w ≡ true → Symbols q (suc m) (nearMessage q m w)
-near-symbols q m w e = found-near q m w _ (readable-found q m w e) .0
-
 zone-below : (q : ℕ) (reference : Reference) (constant : ℕ) → 0 < q → zoneSymbol (zoneFrom q reference constant) < q
 unfolding zoneFrom zoneSymbol subMod
 zone-below q (Held r) constant h = mod-lt _ {m = q} h
@@ -240,3 +236,14 @@ listed-as s line next ends text b at end out t w =
 pub relisted : (s : Receiver) (line other : Line) (next : Receiver) (ends : Bool) (b : List ℕ) (at end : ℕ) (out : List ℕ) → line ≡ other
     → Printed s line next ends b at end out → Printed s other next ends b at end out
 relisted s line other next ends b at end out e p = subst (λ l. Printed s l next ends b at end out) e p
+
+-- and of the same session
+pub of-session : (s t : Receiver) (line : Line) (next : Receiver) (ends : Bool) (b : List ℕ) (at end : ℕ) (out : List ℕ) → s ≡ t
+    → Printed s line next ends b at end out → Printed t line next ends b at end out
+of-session s t line next ends b at end out e p = subst (λ r. Printed r line next ends b at end out) e p
+
+-- a session whose code is q = 4, m = 4 is itself with that code
+pub same-code : (r : Receiver) → r .q ≡ 4 → r .m ≡ 4 → _≡_ {A = Receiver} (record { q = 4; m = 4; reference = r .reference; used = r .used }) r
+same-code r e f =
+    ap (λ q. record { q = q; m = 4; reference = r .reference; used = r .used }) (sym e)
+    ∙ ap (λ m. record { q = r .q; m = m; reference = r .reference; used = r .used }) (sym f)

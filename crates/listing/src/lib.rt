@@ -24,6 +24,20 @@ pub struct Listed {
     pub over: bool,
 }
 
+// The same session, its code written out: where the compiler knows q and m it makes code for them.
+pub fn with_code(receiver: Receiver) -> Receiver
+    requires { ⌜ (receiver .q ≡ 4) × (receiver .m ≡ 4) ⌝ }
+    ensures { λ r. ⌜ r ≡ receiver ⌝ }
+{
+    let reference = receiver.reference;
+    Receiver {
+        q: 4,
+        m: 4,
+        reference,
+        used: receiver.used,
+    }
+}
+
 // The rate of a message that holds one.
 fn rate_of(message: &[u8]) -> u8
     requires { ⌜ unpackRefusal (now message) ≡ 0 ⌝ }
@@ -153,7 +167,7 @@ fn list_word(
 }
 
 // Lists a line of 16 digits.
-fn list_slot(receiver: Receiver, line: &[u8], out: &mut [u8], at: usize) -> Listed
+pub fn list_slot(receiver: Receiver, line: &[u8], out: &mut [u8], at: usize) -> Listed
     requires { ⌜ Ready receiver (now out) at × (isSlot (now line) ≡ true) ⌝ }
     ensures session { λ r. ⌜ r .receiver ≡ lineSession receiver (L.slot (wordOf (now (line .entry)))) ⌝ }
     ensures ends { λ r. ⌜ r .over ≡ lineEnds receiver (L.slot (wordOf (now (line .entry)))) ⌝ }
@@ -163,11 +177,11 @@ fn list_slot(receiver: Receiver, line: &[u8], out: &mut [u8], at: usize) -> List
     let mut word = [0u8; 16];
     lines::fill_word(line, &mut word);
     let mut message = [0u8; 5];
-    list_word(receiver, &word, &mut message, out, at)
+    list_word(with_code(receiver), &word, &mut message, out, at)
 }
 
 // Lists a miss.
-fn list_miss(receiver: Receiver, out: &mut [u8], at: usize) -> Listed
+pub fn list_miss(receiver: Receiver, out: &mut [u8], at: usize) -> Listed
     requires { ⌜ Ready receiver (now out) at ⌝ }
     ensures session { λ r. ⌜ r .receiver ≡ lineSession receiver L.miss ⌝ }
     ensures ends { λ r. ⌜ r .over ≡ lineEnds receiver L.miss ⌝ }

@@ -153,10 +153,14 @@ readable-found q m word e = go (nearest q m word) refl
     go none f = let h = rw f at e in let z : _≡_ {A = ℕ} 0 1 = cc in absurd (omega arith)
     go (some t) f = rw f
 
+-- and that has m + 1 symbols
+pub near-symbols : (q m : ℕ) (word : List ℕ) → isReadable q m word ≡ true → Symbols q (suc m) (nearMessage q m word)
+near-symbols q m word e = found-near q m word _ (readable-found q m word e) .0
+
 -- the constant of a readable word is below q
 pub constant-below : (q m : ℕ) (word : List ℕ) → isReadable q m word ≡ true → receiveConstant q m word < q
 unfolding receiveConstant
-constant-below q m word e = found-near q m word _ (readable-found q m word e) .0 .below 0 (omega arith)
+constant-below q m word e = near-symbols q m word e .below 0 (omega arith)
 
 -- the session after a slot is sound
 pub receiver-next : (s : Receiver) (reference : Reference) → ReceiveYes s → isBelow (s .q) reference ≡ true → soundReceiver (nextReceiver s reference) ≡ true

@@ -6,19 +6,16 @@ use mathlib.Core.List.{List, [], _∷_, _++_}
 use native.Mathlib.Numerals.{add-one}
 use native.Mathlib.Omega.{arith}
 use borrow.Author.Tests.{lt-ltb, le-ltb, eq-eqb, ne-eqb}
-use lib.Dec.{eqb, ltb}
-use lib.ListN.{length, take, set, getD, length-append, length-take, length-drop}
-use lib.Seq.{take-suc, take-suc-set, length-take-le, take-all}
+use lib.Dec.{eqb}
+use lib.ListN.{length, take, set, length-append, length-take, length-drop}
+use lib.Seq.{take-suc-set, length-take-le}
 use Rattle.theory.specs.Question.{after}
 use Rattle.text.specs.Text.{put}
-use Rattle.text.proofs.PutLaws.{put-none, Written, written-as, written-then}
 use Rattle.session.specs.Receiving.{receiveSession, afterReceive, nextReceiver, missSession}
 use Rattle.session.specs.declared.Receiver.{Receiver}
 use Rattle.lines.specs.Line.{Line, slot, miss, bad, readLine}
-use Rattle.listing.specs.Listing.{lineText, lineSession, lineEnds}
-use Rattle.stream.specs.Stream.{Progress, keep, ended, step, stepText, fed, fedText, lastText, endText, Fit}
-use Rattle.stream.specs.declared.Lister.{Lister}
-use Rattle.stream.proofs.StreamLaws.{fed-next, text-next}
+use Rattle.listing.specs.Listing.{lineText, lineSession}
+use Rattle.stream.specs.Stream.{Progress, keep, ended, step, stepText, lastText, endText}
 
 -- what holds of each case of a call holds after it
 after-any : {A : Type 0} (P : A → Type 0) (n : ℕ) (x y : A) → P x → P y → P (after n x y)
@@ -45,12 +42,14 @@ line-code s miss = after-any (SameCode s) _ _ _ (refl, refl) (refl, refl)
 line-code s bad = (refl, refl)
 
 -- a byte that is kept, and one for which there is no room
-pub keep-short : (line : List ℕ) (kept b : ℕ) → length line ≡ 17 → kept < 17 → take (kept + 1) (set line kept b) ≡ keep (take kept line) b
+pub keep-room : (part : List ℕ) (b : ℕ) → length part < 17 → keep part b ≡ part ++ (b ∷ [])
 unfolding keep
+keep-room part b h = ap (λ t. cond t (part ++ (b ∷ [])) part) (lt-ltb (length part) 17 h)
+
+pub keep-short : (line : List ℕ) (kept b : ℕ) → length line ≡ 17 → kept < 17 → take (kept + 1) (set line kept b) ≡ keep (take kept line) b
 keep-short line kept b e h =
     let n : length (take kept line) ≡ kept = length-take-le kept line (omega arith) in
-    ap (λ k. take k (set line kept b)) (add-one kept) ∙ take-suc-set line kept b (omega arith)
-    ∙ sym (ap (λ t. cond t (take kept line ++ (b ∷ [])) (take kept line)) (lt-ltb (length (take kept line)) 17 (omega arith)))
+    ap (λ k. take k (set line kept b)) (add-one kept) ∙ take-suc-set line kept b (omega arith) ∙ sym (keep-room (take kept line) b (omega arith))
 
 pub keep-full : (line : List ℕ) (kept b : ℕ) → length line ≡ 17 → kept ≡ 17 → take kept line ≡ keep (take kept line) b
 unfolding keep
@@ -84,35 +83,6 @@ pub put-fits : (b : List ℕ) (at : ℕ) (t : List ℕ) → at ≤ length b → 
 unfolding put
 put-fits b at t h e = omega (arith, simp (length-append, length-take, length-drop) at e)
 
--- the bytes read so far, from the progress p and the buffer b on
-pub record Run (p : Progress) (b bytes : List ℕ) (now : Progress) (at : ℕ) (out : List ℕ) : Type 0 where
-  pub state : now ≡ fed p bytes
-  pub text : Written b 0 (fedText p bytes) at out
-  pub room : at ≤ length b
-  pub size : length out ≡ length b
-
-pub run-none : (p : Progress) (b : List ℕ) → Run p b [] p 0 b
-unfolding fed fedText
-run-none p b = record { state = refl; text = record { place = refl; buffer = sym (put-none b 0) }; room = omega arith; size = refl }
-
-module _ (p : Progress) (b chunk : List ℕ) (i : ℕ) (h : i < length chunk) where
-  more : take i chunk ++ (getD chunk i 0 ∷ []) ≡ take (i + 1) chunk
-  more = sym (take-suc chunk i 0 h) ∙ ap (λ k. take k chunk) (sym (add-one i))
-
-  pub run-next : (now then : Progress) (at next : ℕ) (out new : List ℕ) → Run p b (take i chunk) now at out → then ≡ step now (getD chunk i 0)
-      → Written out at (stepText now (getD chunk i 0)) next new → length new ≡ length out → Run p b (take (i + 1) chunk) then next new
-  run-next now then at next out new r e w l =
-      let x = getD chunk i 0 in
-      let fits : at + length (stepText now x) ≤ length out = put-fits out at (stepText now x) (omega (arith, r .room, r .size)) (ap length (sym (w .buffer)) ∙ l) in
-      record {
-        state = e ∙ ap (λ q. step q x) (r .state) ∙ sym (fed-next p (take i chunk) x) ∙ ap (fed p) more;
-        text =
-            written-as (ap (λ q. fedText p (take i chunk) ++ stepText q x) (r .state) ∙ sym (text-next p (take i chunk) x) ∙ ap (fedText p) more)
-            (written-then b 0 (fedText p (take i chunk)) (stepText now x) at next out new (omega (arith, fits, r .size, r .text .place)) (r .text) w);
-        room = omega (arith, w .place, r .size);
-        size = l ∙ r .size;
-      }
-
 -- the end of an input
 pub last-some : (s : Receiver) (part : List ℕ) → 0 < length part → lastText s part ≡ lineText s (readLine part)
 unfolding lastText
@@ -126,15 +96,3 @@ end-over p e = rw e
 pub end-last : (p : Progress) → p .over ≡ false → endText p ≡ lastText (p .session) (p .part)
 unfolding endText
 end-last p e = rw e
-
--- the lister after a line's end goes on too
-pub fit-next : (l : Lister) (line : Line) (next : Receiver) (over : Bool) (kept : List ℕ) → Fit l kept → next ≡ lineSession (l .receiver) line
-    → Fit (record { receiver = next; kept = 0; over = over }) kept
-fit-next l line next over kept f e =
-    let c = line-code (l .receiver) line in
-    record {
-      alphabet = ap (λ r. r .q) e ∙ c .0 ∙ f .alphabet;
-      order = ap (λ r. r .m) e ∙ c .1 ∙ f .order;
-      kept = omega arith;
-      size = f .size;
-    }

@@ -1,4 +1,5 @@
 // The session list of an input that comes in chunks. What is kept between them does not grow with the input.
+use listing::Listed;
 use session::Receiver;
 use session::ReceiverOpened;
 use session::Reference;
@@ -8,9 +9,9 @@ ghost use mathlib.Core.Logic.{_⊎_};
 ghost use Prim.Native.Nat.{_+_, _≤_, _<_};
 ghost use lib.ListN.{length, take};
 ghost use Rattle.text.specs.Text.{put};
-ghost use Rattle.lines.specs.Line.{readLine};
-ghost use Rattle.listing.specs.Listing.{lineText, opened};
-ghost use Rattle.stream.specs.Stream.{ended, keep, step as S·step, stepText, fed, fedText, endText, progress, Fit};
+ghost use Rattle.listing.specs.Listing.{opened};
+ghost use Rattle.stream.specs.Stream.{fed, fedText, endText, progress, Fit};
+ghost use Rattle.stream.specs.Parts.{keepAll, hasSlot, hasMiss, Ended, Goes, Took};
 
 // A listing on its way: the session, how many bytes of the line that has begun are kept, and whether the reading has ended.
 pub struct Lister {
@@ -19,10 +20,11 @@ pub struct Lister {
     pub over: bool,
 }
 
-// What a byte leaves: the lister, and the place behind its output.
+// What some bytes leave: the lister, the place behind their output, and how many they were.
 struct Step {
     lister: Lister,
     next: usize,
+    read: usize,
 }
 
 // What a chunk leaves: the lister, how many of its bytes were read, and how many bytes of output they brought.
@@ -56,38 +58,43 @@ pub fn start() -> Lister
     }
 }
 
-// Keeps a byte of the line, if there is room for it.
-fn keep_byte(lister: Lister, line: &mut [u8], b: u8) -> Lister
-    requires { ⌜ Fit lister (now line) ⌝ }
-    ensures session { λ r. ⌜ r .receiver ≡ lister .receiver ⌝ }
-    ensures part { λ r. ⌜ take (r .kept) (now (line .exit)) ≡ keep (take (lister .kept) (now (line .entry))) b ⌝ }
-    ensures over { λ r. ⌜ r .over ≡ lister .over ⌝ }
-    ensures fit { λ r. ⌜ Fit r (now (line .exit)) ⌝ }
+// Keeps the bytes of a line, as far as there is room for them, and returns how many are kept then.
+fn keep_part(kept: usize, line: &mut [u8], part: &[u8]) -> usize
+    requires { ⌜ (kept ≤ 17) × (length (now line) ≡ 17) ⌝ }
+    ensures part { λ r. ⌜ take r (now (line .exit)) ≡ keepAll (take kept (now (line .entry))) (now (part .entry)) ⌝ }
+    ensures bound { λ r. ⌜ r ≤ 17 ⌝ }
 {
-    let kept = lister.kept;
-    if kept == 17 {
-        return lister;
+    let mut n = kept;
+    for i in 0..part.len() {
+        if n == 17 {
+            return n;
+        }
+        line[n] = part[i];
+        n += 1;
     }
-    line[kept] = b;
-    let receiver = lister.receiver;
-    Lister {
-        receiver,
-        kept: kept + 1,
-        over: lister.over,
-    }
+    n
 }
 
-// Lists the line that has ended.
-fn end_line(lister: Lister, line: &[u8], out: &mut [u8], at: usize) -> Step
-    requires { ⌜ Fit lister (now line) × (at + 64 ≤ length (now out)) ⌝ }
-    ensures state { λ r. ⌜ progress (r .lister) (now (line .entry)) ≡ ended (progress lister (now (line .entry))) ⌝ }
-    ensures place { λ r. ⌜ r .next ≡ at + length (lineText (lister .receiver) (readLine (take (lister .kept) (now (line .entry))))) ⌝ }
-    ensures buffer { λ r. ⌜ now (out .exit) ≡ put (now (out .entry)) at (lineText (lister .receiver) (readLine (take (lister .kept) (now (line .entry))))) ⌝ }
-    ensures fit { λ r. ⌜ Fit (r .lister) (now (line .entry)) ⌝ }
+// Whether the bytes begin with a slot's line.
+fn has_slot(bytes: &[u8]) -> bool
+    ensures { λ r. ⌜ r ≡ hasSlot (now (bytes .entry)) ⌝ }
 {
-    let kept = lister.kept;
-    let listed = listing::list_line(lister.receiver, &line[..kept], out, at);
-    let receiver = listed.receiver;
+    16 < bytes.len() && (bytes[16] == b'\n' && lines::is_digits(&bytes[..16]))
+}
+
+// Whether the bytes, n of which stand before the first newline, begin with a miss's line.
+fn has_miss(n: usize, bytes: &[u8]) -> bool
+    ensures { λ r. ⌜ r ≡ hasMiss n (now (bytes .entry)) ⌝ }
+{
+    n == 1 && (1 < bytes.len() && bytes[0] == b'-')
+}
+
+// What a line that is listed leaves.
+fn after_line(listed: Listed, read: usize) -> Step
+    requires { ⌜ (listed .receiver .q ≡ 4) × (listed .receiver .m ≡ 4) ⌝ }
+    ensures { λ r. ⌜ Ended listed read r ⌝ }
+{
+    let receiver = listing::with_code(listed.receiver);
     Step {
         lister: Lister {
             receiver,
@@ -95,25 +102,52 @@ fn end_line(lister: Lister, line: &[u8], out: &mut [u8], at: usize) -> Step
             over: listed.over,
         },
         next: listed.next,
+        read,
     }
 }
 
-// Reads one byte.
-fn read_byte(lister: Lister, line: &mut [u8], b: u8, out: &mut [u8], at: usize) -> Step
-    requires { ⌜ Fit lister (now line) × (lister .over ≡ false) × (at + 64 ≤ length (now out)) ⌝ }
-    ensures state { λ r. ⌜ progress (r .lister) (now (line .exit)) ≡ S·step (progress lister (now (line .entry))) b ⌝ }
-    ensures place { λ r. ⌜ r .next ≡ at + length (stepText (progress lister (now (line .entry))) b) ⌝ }
-    ensures buffer { λ r. ⌜ now (out .exit) ≡ put (now (out .entry)) at (stepText (progress lister (now (line .entry))) b) ⌝ }
-    ensures fit { λ r. ⌜ Fit (r .lister) (now (line .exit)) ⌝ }
+// Reads to the end of the line, or of the bytes. A miss is listed where it stands.
+fn read_part(lister: Lister, line: &mut [u8], bytes: &[u8], out: &mut [u8], at: usize) -> Step
+    requires { ⌜ Goes lister (now line) (now bytes) (now out) at ⌝ }
+    ensures { λ r. ⌜ Took (progress lister (now (line .entry))) (now (bytes .entry)) (now (out .entry)) at r (now (line .exit)) (now (out .exit)) ⌝ }
 {
-    if b == b'\n' {
-        return end_line(lister, line, out, at);
+    let n = lines::line_length(bytes);
+    let begun = lister.kept;
+    if begun == 0 && has_miss(n, bytes) {
+        return after_line(listing::list_miss(lister.receiver, out, at), 2);
     }
-    let kept = keep_byte(lister, line, b);
-    Step {
-        lister: kept,
-        next: at,
+    let kept = keep_part(begun, line, &bytes[..n]);
+    if n == bytes.len() {
+        let receiver = lister.receiver;
+        return Step {
+            lister: Lister {
+                receiver,
+                kept,
+                over: lister.over,
+            },
+            next: at,
+            read: n,
+        };
     }
+    after_line(
+        listing::list_line(lister.receiver, &line[..kept], out, at),
+        n + 1,
+    )
+}
+
+// Reads to the end of the line, or of the bytes. A slot is listed where it stands.
+fn read_line(lister: Lister, line: &mut [u8], bytes: &[u8], out: &mut [u8], at: usize) -> Step
+    requires { ⌜ Goes lister (now line) (now bytes) (now out) at ⌝ }
+    ensures { λ r. ⌜ Took (progress lister (now (line .entry))) (now (bytes .entry)) (now (out .entry)) at r (now (line .exit)) (now (out .exit)) ⌝ }
+{
+    let begun = lister.kept;
+    if begun == 0 && has_slot(bytes) {
+        return after_line(
+            listing::list_slot(lister.receiver, &bytes[..16], out, at),
+            17,
+        );
+    }
+    read_part(lister, line, bytes, out, at)
 }
 
 // Lists the bytes of a chunk, up to its end, the end of the reading, or the byte before which the buffer has no room for a line.
@@ -145,10 +179,10 @@ pub fn feed(lister: Lister, line: &mut [u8], chunk: &[u8], out: &mut [u8]) -> Fe
                 written,
             };
         }
-        let s = read_byte(state, line, chunk[read], out, written);
+        let s = read_line(state, line, &chunk[read..], out, written);
         state = s.lister;
         written = s.next;
-        read += 1;
+        read += s.read;
     }
     Fed {
         lister: state,

@@ -6,7 +6,7 @@ use native.Mathlib.Nat.{add-zero, add-assoc}
 use native.Mathlib.Numerals.{add-one}
 use native.Mathlib.Omega.{arith}
 use lib.ListN.{length, take, drop, set, getD, length-append, length-take, length-drop, take-append-drop}
-use lib.Seq.{set-split, take-at, drop-at, drop-drop, length-take-le, take-suc}
+use lib.Seq.{set-split, take-at, drop-at, drop-drop, length-take-le, take-suc, take-append-le, take-take}
 use Rattle.text.specs.Text.{put}
 
 -- nothing put changes nothing
@@ -47,6 +47,17 @@ put-put b at t u h =
         ∙ ap (drop (length u)) (drop-put b at t (omega arith))
         ∙ drop-drop (length u) (at + length t) b
 
+-- and text put before text
+pub put-before : (b : List ℕ) (at : ℕ) (u t : List ℕ) → at + length u + length t ≤ length b → put (put b (at + length u) t) at u ≡ put b at (u ++ t)
+unfolding put
+put-before b at u t h =
+    let n : length (take (at + length u) b) ≡ at + length u = length-take-le (at + length u) b (omega arith) in
+    ap (λ l. l ++ (u ++ drop (at + length u) (put b (at + length u) t)))
+    (take-append-le at (take (at + length u) b) _ (omega arith) ∙ take-take at (at + length u) b (omega arith))
+    ∙ ap (λ l. take at b ++ (u ++ l)) (drop-at (take (at + length u) b) _ (at + length u) n)
+    ∙ ap (λ l. take at b ++ l) (sym (append-assoc u t _))
+    ∙ ap (λ k. take at b ++ ((u ++ t) ++ drop k b)) (add-assoc at (length u) (length t) ∙ ap (λ k. at + k) (sym (length-append u t)))
+
 -- one byte stored is one put
 pub put-one : (b : List ℕ) (at x : ℕ) → at < length b → set b at x ≡ put b at (x ∷ [])
 unfolding put
@@ -57,6 +68,12 @@ pub put-next : (b : List ℕ) (at : ℕ) (t : List ℕ) (x : ℕ) → at + lengt
 put-next b at t x h =
     let l = length-put b at t (omega arith) in
     put-one (put b at t) (at + length t) x (omega arith) ∙ put-put b at t (x ∷ []) (omega arith)
+
+-- two bytes stored side by side
+pub put-two : (b : List ℕ) (at x y v w : ℕ) → at + 2 ≤ length b → x ≡ v → y ≡ w → set (set b at x) (at + 1) y ≡ put b at (v ∷ w ∷ [])
+put-two b at x y v w h e f =
+    ap (λ l. set l (at + 1) y) (put-one b at x (omega arith)) ∙ put-next b at (x ∷ []) y (omega arith)
+    ∙ ap (λ z. put b at (z ∷ y ∷ [])) e ∙ ap (λ z. put b at (v ∷ z ∷ [])) f
 
 -- the next byte of a text stored behind those before it
 pub put-byte : (b out : List ℕ) (at : ℕ) (t : List ℕ) (i : ℕ) → at + length t ≤ length b → i < length t → out ≡ put b at (take i t)

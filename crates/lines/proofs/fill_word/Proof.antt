@@ -12,14 +12,16 @@ use Rattle.lines.proofs.fill_word.Statement.{statement}
 use Rattle.lines.proofs.fill_word.Tie as tie
 
 abbrev Inv-loop : tie.InvT-loop
-Inv-loop line word₀ i₀ i-end word i =
-    (i ≤ i-end) × (i-end ≡ length line) × (length line ≡ length word₀) × (length word ≡ length word₀) × (word ≡ put word₀ 0 (take i (wordOf line)))
+Inv-loop line word₀ i₀ word i =
+    (i ≤ 16) × (16 ≡ length line) × (length line ≡ length word₀) × (length word ≡ length word₀) × (word ≡ put word₀ 0 (take i (wordOf line)))
 
 abbrev μ-loop : tie.MeasureT-loop
-μ-loop line word₀ i₀ i-end word i = i-end - i
+μ-loop line word₀ i₀ word i = 16 - i
 
 loop-holds : tie.Need-loop-holds Inv-loop μ-loop
-loop-holds c = (omega arith, refl, slot-size (c .args .line .now) (c .pre .0) ∙ sym (c .pre .1), refl, sym (put-none _ 0))
+loop-holds c =
+    let n = slot-size (c .args .line .now) (c .pre .0) in
+    (omega arith, sym n, n ∙ sym (c .pre .1), refl, sym (put-none _ 0))
 
 shared-slice-read-word : tie.Need-shared-slice-read-word Inv-loop μ-loop
 shared-slice-read-word c = search needs
@@ -45,7 +47,7 @@ loop-again c =
     let a = l .before .args in
     let inv = l .loop .inv in (
       omega arith,
-      refl,
+      inv .1,
       inv .2,
       simp length-set (inv .3),
       word-next (a .line .now) (a .word .now) (l .loop .word) (l .loop .i) (inv .2) (omega arith) (inv .4),

@@ -1,13 +1,12 @@
 -- `feed` meets its contract. The loop's invariant: the bytes passed are listed.
 use Prim.Native.Nat.{_≤_, _-_}
-use mathlib.Core.Path.{_≡_, refl, sym, _∙_}
+use mathlib.Core.Path.{sym, _∙_}
 use mathlib.Core.Logic.{inl, inr}
 use native.Mathlib.Nat.{zero-add}
 use native.Mathlib.Omega.{arith}
 use lib.ListN.{length, take}
 use Rattle.stream.specs.Stream.{progress, Fit}
-use Rattle.stream.proofs.ByteLaws.{Run, run-none, run-next}
-use borrow.Author.Needs.{needs}
+use Rattle.stream.proofs.PartLaws.{remaining, remaining-length, Run, run-none, run-more}
 use Rattle.stream.proofs.feed.Statement.{statement}
 use Rattle.stream.proofs.feed.Tie as tie
 
@@ -54,33 +53,58 @@ returns-2 c =
     let r = l .loop .inv .2 in
     (r .state, (r .text .place ∙ zero-add _, (r .text .buffer, (inr (inr (omega (arith, c .if2 .taken, r .size, r .room))), ((l .loop .inv .0, omega (arith, r .room, r .size)), l .loop .inv .1)))))
 
-shared-slice-read-read-byte : tie.Need-shared-slice-read-read-byte Inv-loop μ-loop
-shared-slice-read-read-byte c = omega arith
+sub-read-line : tie.Need-sub-read-line Inv-loop μ-loop
+sub-read-line c = omega arith
 
-read-byte-requires : tie.Need-read-byte-requires Inv-loop μ-loop
-read-byte-requires c κs =
+part-read-line-start : tie.Need-part-read-line-start Inv-loop μ-loop
+part-read-line-start c = omega arith
+
+part-read-line-end : tie.Need-part-read-line-end Inv-loop μ-loop
+part-read-line-end c = omega arith
+
+read-line-requires : tie.Need-read-line-requires Inv-loop μ-loop
+unfolding remaining
+read-line-requires c κs =
     let e = c .before .before .before in
-    let l = e .before .before .before in
+    let i = e .before .before in
+    let l = i .before in
     let r = l .loop .inv .2 in
-    (l .loop .inv .1, e .before .if1 .left, omega (arith, e .if2 .left, r .room, r .size))
+    let n = remaining-length (l .before .before .before .before .args .chunk .now) (l .loop .read) in
+    record {
+      fit = l .loop .inv .1;
+      on = e .before .if1 .left;
+      some = omega (arith, n, i .loop-test .taken);
+      room = omega (arith, e .if2 .left, r .room, r .size);
+    }
 
 add-read : tie.Need-add-read Inv-loop μ-loop
-add-read c = omega arith
-
-loop-less : tie.Need-loop-less Inv-loop μ-loop
-loop-less c = omega arith
-
-loop-again : tie.Need-loop-again Inv-loop μ-loop
-loop-again c =
-    let d = c .before .before .before .before .before in
+unfolding remaining
+add-read c =
+    let d = c .before .before .before .before .before .before in
     let l = d .before .before .before .before .before .before .before in
     let s = l .before .before .before .before in
-    let inside = d .before .before .before .before .before .before .loop-test .taken in
-    let e = d .read-byte .ensures in (
-      omega (arith, inside),
-      e .1 .1 .1,
-      run-next _ (s .args .out .now) (s .args .chunk .now) (l .loop .read) (omega (arith, inside)) _ _ _ _ _ _ (l .loop .inv .2) (e .0)
-          (record { place = e .1 .0; buffer = e .1 .1 .0 }) (d .read-byte .kept .1 .1 .1 .0),
+    let n = remaining-length (s .args .chunk .now) (l .loop .read) in
+    omega (arith, n, d .read-line .ensures .bound, l .loop .inv .0, s .good)
+
+loop-less : tie.Need-loop-less Inv-loop μ-loop
+unfolding remaining
+loop-less c =
+    let d = c .before .before .before .before .before .before in
+    let l = d .before .before .before .before .before .before .before in
+    let n = remaining-length (l .before .before .before .before .args .chunk .now) (l .loop .read) in
+    omega (arith, n, d .read-line .ensures .some, d .read-line .ensures .bound, l .loop .inv .0)
+
+loop-again : tie.Need-loop-again Inv-loop μ-loop
+unfolding remaining
+loop-again c =
+    let d = c .before .before .before .before .before .before in
+    let l = d .before .before .before .before .before .before .before in
+    let s = l .before .before .before .before in
+    let n = remaining-length (s .args .chunk .now) (l .loop .read) in
+    let e = d .read-line .ensures in (
+      omega (arith, n, e .bound, l .loop .inv .0),
+      e .fit,
+      run-more _ (s .args .out .now) (s .args .chunk .now) (l .loop .read) _ _ _ _ _ _ (l .loop .inv .2) e (d .read-line .kept .1 .1 .1 .0),
     )
 
 same-length-5 : tie.Need-same-length-5 Inv-loop μ-loop
@@ -111,8 +135,10 @@ feed-spec =
     same-length-3
     same-length-4
     returns-2
-    shared-slice-read-read-byte
-    read-byte-requires
+    sub-read-line
+    part-read-line-start
+    part-read-line-end
+    read-line-requires
     add-read
     loop-less
     loop-again
