@@ -10,9 +10,6 @@ use Rattle.theory.specs.Index.{ifClear}
 use Rattle.theory.specs.Modular.{same}
 use Rattle.theory.specs.Margin.{mostOther, lead}
 use Rattle.theory.proofs.ModularLaws.{same-eq, same-ne}
-use mathlib.Core.Bool.{true}
-use Rattle.theory.specs.Question.{isAlphabet}
-use Rattle.theory.proofs.QuestionLaws.{Alphabet, alphabet}
 use Rattle.theory.proofs.MarginLaws.{mostOther-le, mostOther-ext}
 use Rattle.tally.specs.Digits.{digit, Counts}
 use Rattle.race.specs.Race.{Leads, Meets, together}
@@ -100,12 +97,3 @@ unfolding together digit
 alone q t f s n o h = leads-ext q (together t 0) f s n o (λ v l.
     let z : 0 / 256 ^ v % 256 ≡ 0 = ap (λ x. x % 256) (zero-div (256 ^ v)) in
     omega (arith, z, h v l))
-
--- the alphabet that is neither of the smaller ones
-pub last-alphabet : (q : ℕ) → isAlphabet q ≡ true → q ≢ 2 → q ≢ 4 → q ≡ 8
-last-alphabet q e a b = go (alphabet q e)
-  where
-    go : Alphabet q → q ≡ 8
-    go (inl h) = absurd (a h)
-    go (inr (inl h)) = absurd (b h)
-    go (inr (inr h)) = h

@@ -51,10 +51,10 @@ fn meet(r: Race, v: u32, x: u32) -> Race
     }
 }
 
-// The leader among the values below n in the votes that two tallies hold together.
-fn leader(n: u32, t: u64, u: u64) -> Race
-    requires { ⌜ (0 < n) × (n ≤ 8) ⌝ }
-    ensures { λ r. ⌜ Leads n (together t u) (r .symbol) (r .votes) (r .next) ⌝ }
+// The winner of the votes that two tallies hold together.
+pub fn winner(q: u32, t: u64, u: u64) -> Race
+    requires { ⌜ isAlphabet q ≡ true ⌝ }
+    ensures { λ r. ⌜ Leads q (together t u) (r .symbol) (r .votes) (r .next) ⌝ }
 {
     let mut r = Race {
         symbol: 0,
@@ -63,22 +63,10 @@ fn leader(n: u32, t: u64, u: u64) -> Race
     };
     let mut a = t;
     let mut b = u;
-    for v in 1..n {
+    for v in 1..q {
         a = a >> 8;
         b = b >> 8;
         r = meet(r, v, low_digit(a) + low_digit(b));
     }
     r
-}
-
-// The winner of the votes that two tallies hold together. A loop with the number of values written out is unrolled.
-pub fn winner(q: u32, t: u64, u: u64) -> Race
-    requires { ⌜ isAlphabet q ≡ true ⌝ }
-    ensures { λ r. ⌜ Leads q (together t u) (r .symbol) (r .votes) (r .next) ⌝ }
-{
-    match q {
-        2 => leader(2, t, u),
-        4 => leader(4, t, u),
-        _ => leader(8, t, u),
-    }
 }
