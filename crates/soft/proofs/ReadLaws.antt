@@ -21,7 +21,7 @@ use Rattle.samples.specs.Decision.{Decision, decide, isSure, symbol}
 use Rattle.samples.specs.Soft.{every, voteSums, coefficient, constantSums, decision, softMessage, allInRange, allSure, readRefusal, readAnswer, readMessage}
 use Rattle.samples.proofs.SumsLaws.{every-no}
 use Rattle.samples.proofs.DecisionLaws.{symbol-lt, constant-ext, all-sure}
-use Rattle.sums.specs.Work.{coefficientsIn}
+use Rattle.sums.specs.Work.{Coefficients, coefficientsIn}
 use Rattle.soft.specs.Work.{sliceRefusal, sampleRefusal, sureTo, Found, constantDecision}
 
 -- what the code learns of a decision by the sums z
@@ -33,13 +33,14 @@ learnt z w d v e f g = g ∙ ap symbol (f ∙ ap (decide f32) e)
 
 module _ (m : ℕ) (re im : List Float) where
   -- ---- the coefficients
-  pub found-none : (f : List ℕ) → length f ≡ 9 → Found m re im 0 f
-  found-none f e = record { size = e; each = λ j l. absurd (not-suc-le-zero l) }
+  pub found-none : (f : List ℕ) → length f ≡ 9 → at f 0 ≡ 0 → Found m re im 0 f
+  found-none f e z = record { size = e; zeroth = z; each = λ j l. absurd (not-suc-le-zero l) }
 
   pub found-next : (k v : ℕ) (f : List ℕ) → k < 8 → Found m re im k f → v ≡ symbol (decide f32 (voteSums f32 m k (sample f32 re im))) → Found m re im (k + 1) (set f (k + 1) v)
   unfolding coefficient
   found-next k v f l g e = record {
     size = length-set f (k + 1) v ∙ g .size;
+    zeroth = getD-set-other f (k + 1) 0 v 0 (λ z. absurd (omega (arith, z))) ∙ g .zeroth;
     each = below-more (λ j. at (set f (k + 1) v) (suc j) ≡ coefficient f32 m (sample f32 re im) j) k
         (λ j u. getD-set-other f (k + 1) (suc j) v 0 (λ z. absurd (omega (arith, z))) ∙ g .each j u)
         (ap (at (set f (k + 1) v)) (sym (add-one k)) ∙ getD-set-same f (k + 1) v 0 (omega (arith, g .size)) ∙ e);
@@ -63,9 +64,12 @@ module _ (m : ℕ) (re im : List Float) where
   pub found-all : (k : ℕ) (f : List ℕ) → k ≡ m → Found m re im k f → Found m re im m f
   found-all k f e g = rw e at g
 
-  pub found-below : (f : List ℕ) → Found m re im m f → (k : ℕ) → k < m → at f (suc k) < 4
+  found-below : (f : List ℕ) → Found m re im m f → (k : ℕ) → k < m → at f (suc k) < 4
   unfolding coefficient
   found-below f g k l = rw (g .each k l) (symbol-lt f32 (voteSums f32 m k (sample f32 re im)))
+
+  pub found-coefficients : (f : List ℕ) → Found m re im m f → Coefficients m f
+  found-coefficients f g = record { size = g .size; zeroth = g .zeroth; below = found-below f g }
 
   -- the constant's sums by what was found are those of the definition
   pub constant-found : (f : List ℕ) (z : Complex Float) (d : Decision Float) → Found m re im m f → z ≡ constantSums f32 m (coefficientsIn f) (sample f32 re im)

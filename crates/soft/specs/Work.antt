@@ -32,6 +32,7 @@ sureTo m re im k = every k (λ j. isSure (decide f32 (voteSums f32 m j (sample f
 -- found holds the first k coefficients, from place 1 on
 pub record Found (m : ℕ) (re im : List Float) (k : ℕ) (found : List ℕ) : Type 0 where
   pub size : length found ≡ 9
+  pub zeroth : at found 0 ≡ 0
   pub each : (j : ℕ) → j < k → at found (suc j) ≡ coefficient f32 m (sample f32 re im) j
 
 -- the decision for the constant

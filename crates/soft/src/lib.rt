@@ -1,12 +1,14 @@
 // Soft samples for q = 4: one soft vote, and the soft read.
 use decisions::SoftVote;
+use sums::Sums;
 ghost use mathlib.Core.Path.{_≡_};
 ghost use mathlib.Core.Bool.{true, _&&_};
 ghost use Prim.Native.Nat.{suc, _≤_};
 ghost use lib.ListN.{length, getD, take};
+ghost use Rattle.theory.specs.Sum.{at};
 ghost use Rattle.samples.specs.Numbers.{f32};
 ghost use Rattle.samples.specs.Soft.{inRange, allInRange, voteRefusal, softVote, readAnswer, readMessage};
-ghost use Rattle.sums.specs.Work.{Samples};
+ghost use Rattle.sums.specs.Work.{Samples, AllSums};
 ghost use Rattle.decisions.specs.Voted.{voted};
 ghost use Rattle.soft.specs.Answers.{softAnswered};
 ghost use Rattle.soft.specs.Work.{sliceRefusal, sampleRefusal, sureTo, Found, constantDecision};
@@ -24,22 +26,38 @@ fn in_range(x: f32) -> bool
     (-127.0 <= x) & (x <= 127.0)
 }
 
-// Question 10 for a slice. No early exit: a refused slice is rare, and a test and a branch at each part cost more.
-fn all_in_range(x: &[f32]) -> bool
+// Question 10 for four parts.
+fn four_in_range(x: &[f32]) -> bool
+    requires { ⌜ length (now x) ≡ 4 ⌝ }
     ensures { λ r. ⌜ r ≡ allInRange f32 (now (x .entry)) ⌝ }
 {
+    in_range(sums::part(x, 0))
+        & in_range(sums::part(x, 1))
+        & in_range(sums::part(x, 2))
+        & in_range(sums::part(x, 3))
+}
+
+// Question 10 for both slices. No early exit: a refused slice is rare, and a test and a branch at each part cost more.
+fn all_in_range(re: &[f32], im: &[f32]) -> bool
+    requires { ⌜ length (now re) ≡ length (now im) ⌝ }
+    ensures { λ r. ⌜ r ≡ (allInRange f32 (now (re .entry)) && allInRange f32 (now (im .entry))) ⌝ }
+{
     let mut all = true;
-    for i in 0..x.len() {
-        all = all & in_range(sums::part(x, i));
+    for i in 0..re.len() {
+        all = all & in_range(sums::part(re, i)) & in_range(sums::part(im, i));
     }
     all
 }
 
-// Question 10.
+// Question 10, with no loop for the shortest slices.
 fn both_in_range(re: &[f32], im: &[f32]) -> bool
+    requires { ⌜ length (now re) ≡ length (now im) ⌝ }
     ensures { λ r. ⌜ r ≡ (allInRange f32 (now (re .entry)) && allInRange f32 (now (im .entry))) ⌝ }
 {
-    all_in_range(re) & all_in_range(im)
+    if re.len() == 4 {
+        return four_in_range(re) & four_in_range(im);
+    }
+    all_in_range(re, im)
 }
 
 // Questions 7 and 10.
@@ -88,19 +106,35 @@ pub fn soft_vote(m: u32, k: u32, re: &[f32], im: &[f32]) -> SoftVote
     decisions::decision(sums::vote_sums(m, k, re, im))
 }
 
-// Every coefficient's symbol, put into found from place 1 on; false where one is unsure.
-fn coefficients(m: u32, re: &[f32], im: &[f32], found: &mut [u8]) -> bool
-    requires { ⌜ Samples m (now re) (now im) × (length (now found) ≡ 9) ⌝ }
+// Every coefficient's symbol by its sums, put into found from place 1 on; false where one is unsure.
+fn decide_all(m: u32, re: &[f32], im: &[f32], sr: &[f32], si: &[f32], found: &mut [u8]) -> bool
+    requires { ⌜ Samples m (now re) (now im) × AllSums m (now re) (now im) (now sr) (now si) × (length (now found) ≡ 9) × (at (now found) 0 ≡ 0) ⌝ }
     ensures { λ r. ⌜ (r ≡ sureTo m (now (re .entry)) (now (im .entry)) m) × (r ≡ true → Found m (now (re .entry)) (now (im .entry)) m (now (found .exit))) ⌝ }
 {
     for k in 0..m {
-        let vote = decisions::decision(sums::vote_sums(m, k, re, im));
+        let i = k as usize;
+        let s = Sums {
+            re: sums::part(sr, i),
+            im: sums::part(si, i),
+        };
+        let vote = decisions::decision(s);
         if !decisions::is_sure(vote) {
             return false;
         }
-        found[k as usize + 1] = decisions::symbol_of(vote);
+        found[i + 1] = decisions::symbol_of(vote);
     }
     true
+}
+
+// Every coefficient's symbol, put into found from place 1 on; false where one is unsure.
+fn coefficients(m: u32, re: &[f32], im: &[f32], found: &mut [u8]) -> bool
+    requires { ⌜ Samples m (now re) (now im) × (length (now found) ≡ 9) × (at (now found) 0 ≡ 0) ⌝ }
+    ensures { λ r. ⌜ (r ≡ sureTo m (now (re .entry)) (now (im .entry)) m) × (r ≡ true → Found m (now (re .entry)) (now (im .entry)) m (now (found .exit))) ⌝ }
+{
+    let mut sr = [0.0f32; 8];
+    let mut si = [0.0f32; 8];
+    sums::all_sums(m, re, im, &mut sr, &mut si);
+    decide_all(m, re, im, &sr, &si, found)
 }
 
 // The decision for the constant, by the coefficients in found.

@@ -1,3 +1,4 @@
 -- What the functions' proofs share.
 pub mod Steps
+pub mod RowLaws
 pub mod TurnLaws

@@ -1,5 +1,5 @@
 -- The indices with bit k clear, and one vote more. Assumes nothing.
-use Prim.Native.Nat.{ℕ, zero, suc, _+_, _*_, _/_, _%_, _^_, _<_}
+use Prim.Native.Nat.{ℕ, zero, suc, _+_, _*_, _/_, _%_, _^_, _≤_, _<_}
 use mathlib.Core.Path.{_≡_, refl, ap, ap₂, sym, _∙_}
 use mathlib.Core.List.{List}
 use native.Mathlib.Nat.{div-mul-le-self, mod-eq-of-lt}
@@ -14,7 +14,7 @@ use Rattle.samples.specs.Complex.{Complex, sample, term, plus}
 use Rattle.samples.specs.Soft.{voteSums}
 use Rattle.samples.proofs.SumsLaws.{sums-none, sums-next, votesTo, votes-all}
 use Rattle.sums.specs.Pair.{complex}
-use Rattle.sums.specs.Work.{Samples}
+use Rattle.sums.specs.Work.{Samples, voteAt}
 
 -- the numbers that the code writes
 pub zero-bits : ofBits binary32 0 ≡ ofInt binary32 (pos 0)
@@ -51,20 +51,34 @@ pub votes-none : (re im : List Float) (k : ℕ) → complex (ofBits binary32 0) 
 unfolding votesTo
 votes-none re im k = ap₂ complex zero-bits zero-bits ∙ sym (sums-none f32 (λ i. 0) _)
 
+-- the vote at place j
+pub vote-is : (re im : List Float) (k j i gap : ℕ) (r y p : Complex Float) → i ≡ nthClear k j → gap ≡ 2 ^ k → y ≡ sample f32 re im (i + gap) → p ≡ sample f32 re im i
+    → r ≡ term f32 y p → r ≡ voteAt re im k j
+unfolding voteAt
+vote-is re im k j i gap r y p f g Y P R = R ∙ ap₂ (term f32) (Y ∙ ap₂ (λ a b. sample f32 re im (a + b)) f g) (P ∙ ap (sample f32 re im) f)
+
 -- one vote more
-pub vote-next : (re im : List Float) (k j i gap : ℕ) (s r y p : Complex Float) → s ≡ votesTo f32 k (sample f32 re im) j → i ≡ nthClear k j → gap ≡ 2 ^ k
-    → y ≡ sample f32 re im (i + gap) → p ≡ sample f32 re im i → r ≡ plus f32 s (term f32 y p) → r ≡ votesTo f32 k (sample f32 re im) (j + 1)
-unfolding votesTo
-vote-next re im k j i gap s r y p e f g Y P R =
+pub vote-next : (re im : List Float) (k j : ℕ) (s r z : Complex Float) → s ≡ votesTo f32 k (sample f32 re im) j → z ≡ voteAt re im k j → r ≡ plus f32 s z
+    → r ≡ votesTo f32 k (sample f32 re im) (j + 1)
+unfolding votesTo voteAt
+vote-next re im k j s r z e Z R =
     R
-    ∙ ap₂ (plus f32) e (ap₂ (term f32) (Y ∙ ap₂ (λ a b. sample f32 re im (a + b)) f g) (P ∙ ap (sample f32 re im) f))
+    ∙ ap₂ (plus f32) e Z
     ∙ sym (sums-next f32 j (λ i. term f32 (sample f32 re im (nthClear k i + 2 ^ k)) (sample f32 re im (nthClear k i))))
 
--- all votes
-pub votes-end : (re im : List Float) (m k j : ℕ) (s : Complex Float) → Samples m re im → k < m → s ≡ votesTo f32 k (sample f32 re im) j → j ≡ length re / 2
+-- two votes more
+pub votes-next : (re im : List Float) (k b : ℕ) (s r t z w : Complex Float) → s ≡ votesTo f32 k (sample f32 re im) (2 * b) → z ≡ voteAt re im k (2 * b) → r ≡ plus f32 s z
+    → w ≡ voteAt re im k (2 * b + 1) → t ≡ plus f32 r w → t ≡ votesTo f32 k (sample f32 re im) (2 * (b + 1))
+votes-next re im k b s r t z w e Z R W T =
+    vote-next re im k (2 * b + 1) r t w (vote-next re im k (2 * b) s r z e Z R) W T
+    ∙ ap (votesTo f32 k (sample f32 re im)) (omega arith)
+
+-- all votes: two for every four samples
+pub votes-end : (re im : List Float) (m k b : ℕ) (s : Complex Float) → Samples m re im → k < m → s ≡ votesTo f32 k (sample f32 re im) (2 * b) → b ≡ length re / 4
     → s ≡ voteSums f32 m k (sample f32 re im)
-votes-end re im m k j s S h e f = e ∙ votes-all f32 m k j (sample f32 re im) h (even m h (f ∙ ap (λ n. n / 2) (S .reals)))
+votes-end re im m k b s S h e f = e ∙ votes-all f32 m k (2 * b) (sample f32 re im) h (fours m (S .low) (f ∙ ap (λ n. n / 4) (S .reals)))
   where
-    even : (m : ℕ) → k < m → j ≡ 2 ^ m / 2 → 2 * j ≡ 2 ^ m
-    even zero h e = absurd (omega arith)
-    even (suc m) h e = omega arith
+    fours : (m : ℕ) → 2 ≤ m → b ≡ 2 ^ m / 4 → 2 * (2 * b) ≡ 2 ^ m
+    fours zero h e = absurd (omega arith)
+    fours (suc zero) h e = absurd (omega arith)
+    fours (suc (suc m)) h e = omega arith

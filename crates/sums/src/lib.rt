@@ -1,14 +1,14 @@
 // Sums of soft samples for q = 4: those of the votes for a coefficient, and those of the samples turned back.
 ghost use mathlib.Core.Path.{_≡_};
-ghost use Prim.Native.Nat.{ℕ, suc, _+_, _*_, _^_, _<_, _≤_};
+ghost use Prim.Native.Nat.{ℕ, suc, _+_, _*_, _/_, _<_, _≤_};
 ghost use lib.ListN.{length, getD};
-ghost use Rattle.theory.specs.Sum.{at};
 ghost use Rattle.theory.proofs.IndexLaws.{nthClear};
 ghost use Rattle.samples.specs.Numbers.{f32};
 ghost use Rattle.samples.specs.Complex.{sample, term, turnBack, plus};
 ghost use Rattle.samples.specs.Soft.{voteSums, constantSums};
+ghost use Rattle.samples.proofs.SumsLaws.{votesTo};
 ghost use Rattle.sums.specs.Pair.{pair, complex};
-ghost use Rattle.sums.specs.Work.{Samples, coefficientsIn, Turns, Doubled};
+ghost use Rattle.sums.specs.Work.{Samples, voteAt, Put, Rows, SumsTo, sumsOf, Stored, AllSums, Coefficients, coefficientsIn, Turns};
 
 // The real and the imaginary sum of a vote, kept together.
 pub struct Sums {
@@ -52,47 +52,151 @@ fn nth_clear(k: u32, j: usize) -> usize
     j + ((j >> k) << k)
 }
 
-// Both sums of the votes for coefficient k, over the indices with bit k clear, upward.
+// The vote at place j of coefficient k, which is at index i.
+fn vote_at(m: u32, k: u32, j: usize, i: usize, re: &[f32], im: &[f32]) -> Sums
+    requires { ⌜ Samples m (now re) (now im) × (k < m) × (j < length (now re) / 2) × (i ≡ nthClear k j) ⌝ }
+    ensures { λ r. ⌜ pair r ≡ voteAt (now (re .entry)) (now (im .entry)) k j ⌝ }
+{
+    let gap = questions::pow2(k);
+    vote_term(
+        part(re, i + gap),
+        part(im, i + gap),
+        part(re, i),
+        part(im, i),
+    )
+}
+
+// Both sums of the votes for coefficient k, over the indices with bit k clear, upward: two places at a time.
 pub fn vote_sums(m: u32, k: u32, re: &[f32], im: &[f32]) -> Sums
     requires { ⌜ Samples m (now re) (now im) × (k < m) ⌝ }
     ensures { λ r. ⌜ pair r ≡ voteSums f32 m k (sample f32 (now (re .entry)) (now (im .entry))) ⌝ }
 {
-    let gap = questions::pow2(k);
     let mut s = Sums { re: 0.0, im: 0.0 };
-    for j in 0..re.len() / 2 {
-        let i = nth_clear(k, j);
-        let z = vote_term(
-            part(re, i + gap),
-            part(im, i + gap),
-            part(re, i),
-            part(im, i),
-        );
+    for b in 0..re.len() / 4 {
+        let j = 2 * b;
+        s = add(s, vote_at(m, k, j, nth_clear(k, j), re, im));
+        s = add(s, vote_at(m, k, j + 1, nth_clear(k, j + 1), re, im));
+    }
+    s
+}
+
+// The votes at eight places of coefficient k from 8 b on, put into its row. Four places on end stand at four indices on end.
+fn put_row(m: u32, k: u32, b: usize, re: &[f32], im: &[f32], rows: &mut [f32])
+    requires { ⌜ Samples m (now re) (now im) × (2 ≤ k) × (k < m) × (b < length (now re) / 16) × (length (now rows) ≡ 128) ⌝ }
+    ensures { λ _. ⌜ Put (now (re .entry)) (now (im .entry)) k b (now (rows .entry)) (now (rows .exit)) 8 ⌝ }
+{
+    let at = 16 * k as usize;
+    for x in 0..8usize {
+        let i = nth_clear(k, 8 * b + x / 4 * 4) + x % 4;
+        let z = vote_at(m, k, 8 * b + x, i, re, im);
+        rows[at + x] = z.re;
+        rows[at + 8 + x] = z.im;
+    }
+}
+
+// The rows of all coefficients from 2 on.
+fn put_rows(m: u32, b: usize, re: &[f32], im: &[f32], rows: &mut [f32])
+    requires { ⌜ Samples m (now re) (now im) × (b < length (now re) / 16) × (length (now rows) ≡ 128) ⌝ }
+    ensures { λ _. ⌜ Rows (now (re .entry)) (now (im .entry)) b (now (rows .exit)) m ⌝ }
+{
+    for k in 2..m {
+        put_row(m, k, b, re, im, rows);
+    }
+}
+
+// The sums of coefficient k with the eight votes of its row more.
+fn add_row(m: u32, k: u32, b: usize, re: &[f32], im: &[f32], rows: &[f32], from: Sums) -> Sums
+    requires { ⌜ (m ≤ 8) × (2 ≤ k) × (k < m) × Rows (now re) (now im) b (now rows) m × (pair from ≡ votesTo f32 k (sample f32 (now re) (now im)) (8 * b)) ⌝ }
+    ensures { λ r. ⌜ pair r ≡ votesTo f32 k (sample f32 (now (re .entry)) (now (im .entry))) (8 * (b + 1)) ⌝ }
+{
+    let at = 16 * k as usize;
+    let mut s = from;
+    for x in 0..8usize {
+        let z = Sums {
+            re: part(rows, at + x),
+            im: part(rows, at + 8 + x),
+        };
         s = add(s, z);
     }
     s
 }
 
-// The turns from len to 2 len: those below len, and a more.
-fn double(len: usize, a: u8, turns: &mut [u8])
-    requires { ⌜ (length (now turns) ≡ 256) × (len ≤ 128) × (a < 4) × ((i : ℕ) → i < len → at (now turns) i < 4) ⌝ }
-    ensures { λ _. ⌜ Doubled len a (now (turns .entry)) (now (turns .exit)) len ⌝ }
+// The sums of all coefficients from 2 on with the votes of their rows more.
+fn add_rows(m: u32, b: usize, re: &[f32], im: &[f32], rows: &[f32], sr: &mut [f32], si: &mut [f32])
+    requires { ⌜ (2 ≤ m) × (m ≤ 8) × Rows (now re) (now im) b (now rows) m × SumsTo (now re) (now im) (8 * b) (now sr) (now si) m ⌝ }
+    ensures { λ _. ⌜ SumsTo (now (re .entry)) (now (im .entry)) (8 * (b + 1)) (now (sr .exit)) (now (si .exit)) m ⌝ }
 {
-    for i in 0..len {
-        turns[i + len] = (turns[i] + a) & 3;
+    for k in 2..m {
+        let i = k as usize;
+        let from = Sums {
+            re: part(sr, i),
+            im: part(si, i),
+        };
+        let s = add_row(m, k, b, re, im, rows, from);
+        sr[i] = s.re;
+        si[i] = s.im;
     }
 }
 
-// The quarter turns that the coefficients in found ask for at each index, by doubling.
+// The sums of all coefficients from 2 on, eight places of each at a time: the additions of one wait while others go on.
+fn high_sums(m: u32, re: &[f32], im: &[f32], rows: &mut [f32], sr: &mut [f32], si: &mut [f32])
+    requires { ⌜ Samples m (now re) (now im) × (4 ≤ m) × (length (now rows) ≡ 128) × SumsTo (now re) (now im) 0 (now sr) (now si) m ⌝ }
+    ensures { λ _. ⌜ SumsTo (now (re .entry)) (now (im .entry)) (length (now (re .entry)) / 2) (now (sr .exit)) (now (si .exit)) m ⌝ }
+{
+    for b in 0..re.len() / 16 {
+        put_rows(m, b, re, im, rows);
+        add_rows(m, b, re, im, rows, sr, si);
+    }
+}
+
+// The sums of the coefficients below end, one after the other.
+fn low_sums(m: u32, end: u32, re: &[f32], im: &[f32], sr: &mut [f32], si: &mut [f32])
+    requires { ⌜ Samples m (now re) (now im) × (end ≤ m) × (length (now sr) ≡ 8) × (length (now si) ≡ 8) ⌝ }
+    ensures { λ _. ⌜ Stored (sumsOf m (now (re .entry)) (now (im .entry))) 0 (now (sr .entry)) (now (si .entry)) (now (sr .exit)) (now (si .exit)) end ⌝ }
+{
+    for k in 0..end {
+        let s = vote_sums(m, k, re, im);
+        sr[k as usize] = s.re;
+        si[k as usize] = s.im;
+    }
+}
+
+// The sums of all coefficients from 2 on where there are many samples; of few they are left as they are.
+fn many_sums(m: u32, re: &[f32], im: &[f32], sr: &mut [f32], si: &mut [f32])
+    requires { ⌜ Samples m (now re) (now im) × SumsTo (now re) (now im) 0 (now sr) (now si) m ⌝ }
+    ensures { λ _. ⌜ (length (now (sr .exit)) ≡ 8) × (length (now (si .exit)) ≡ 8)
+        × (5 ≤ m → SumsTo (now (re .entry)) (now (im .entry)) (length (now (re .entry)) / 2) (now (sr .exit)) (now (si .exit)) m) ⌝ }
+{
+    if m < 5 {
+        return;
+    }
+    let mut rows = [0.0f32; 128];
+    high_sums(m, re, im, &mut rows, sr, si);
+}
+
+// How many coefficients are summed one after the other: all where there are few samples, else the first two.
+fn low_end(m: u32) -> u32
+    requires { ⌜ 2 ≤ m ⌝ }
+    ensures { λ r. ⌜ (r ≤ m) × (m < 5 → r ≡ m) × (5 ≤ m → r ≡ 2) ⌝ }
+{
+    if m < 5 { m } else { 2 }
+}
+
+// The sums of the votes for every coefficient, put into sr and si, which hold zeros.
+pub fn all_sums(m: u32, re: &[f32], im: &[f32], sr: &mut [f32], si: &mut [f32])
+    requires { ⌜ Samples m (now re) (now im) × SumsTo (now re) (now im) 0 (now sr) (now si) m ⌝ }
+    ensures { λ _. ⌜ AllSums m (now (re .entry)) (now (im .entry)) (now (sr .exit)) (now (si .exit)) ⌝ }
+{
+    many_sums(m, re, im, sr, si);
+    low_sums(m, low_end(m), re, im, sr, si);
+}
+
+// The quarter turns that the coefficients in found ask for at each index: the word of found, whose constant is 0.
 pub fn quarter_turns(m: u32, found: &[u8], turns: &mut [u8])
-    requires { ⌜ (m ≤ 8) × (length (now found) ≡ 9) × (length (now turns) ≡ 256) × ((k : ℕ) → k < m → at (now found) (suc k) < 4) ⌝ }
+    requires { ⌜ (2 ≤ m) × (m ≤ 8) × Coefficients m (now found) × (length (now turns) ≡ 256) ⌝ }
     ensures { λ _. ⌜ Turns m (now (found .entry)) (now (turns .exit)) ⌝ }
 {
-    turns[0] = 0;
-    let mut len: usize = 1;
-    for k in 0..m {
-        double(len, found[k as usize + 1], turns);
-        len = 2 * len;
-    }
+    codeword::write(4, m, found, turns);
 }
 
 // The sample (x, y) turned back by t quarter turns.
@@ -107,14 +211,39 @@ fn turn_back(t: u8, x: f32, y: f32) -> Sums
     }
 }
 
+// The same by a table of the four signed parts: there is no branch that the turns of many samples could mislead.
+fn turn_by_table(t: u8, x: f32, y: f32) -> Sums
+    requires { ⌜ t < 4 ⌝ }
+    ensures { λ r. ⌜ pair r ≡ turnBack f32 t (complex x y) ⌝ }
+{
+    let z = [x, y, -x, -y];
+    let i = t as usize;
+    Sums {
+        re: z[i],
+        im: z[(i + 1) & 3],
+    }
+}
+
+// The sample turned back in the way that suits few or many samples.
+fn turn(many: bool, t: u8, x: f32, y: f32) -> Sums
+    requires { ⌜ t < 4 ⌝ }
+    ensures { λ r. ⌜ pair r ≡ turnBack f32 t (complex x y) ⌝ }
+{
+    if many {
+        return turn_by_table(t, x, y);
+    }
+    turn_back(t, x, y)
+}
+
 // Both sums of all samples, each turned back by its quarter turns, upward.
 pub fn constant_sums(m: u32, found: &[u8], turns: &[u8], re: &[f32], im: &[f32]) -> Sums
     requires { ⌜ Samples m (now re) (now im) × Turns m (now found) (now turns) ⌝ }
     ensures { λ r. ⌜ pair r ≡ constantSums f32 m (coefficientsIn (now (found .entry))) (sample f32 (now (re .entry)) (now (im .entry))) ⌝ }
 {
     let mut all = Sums { re: 0.0, im: 0.0 };
+    let many = m > 5;
     for i in 0..re.len() {
-        let z = turn_back(turns[i], part(re, i), part(im, i));
+        let z = turn(many, turns[i], part(re, i), part(im, i));
         all = add(all, z);
     }
     all

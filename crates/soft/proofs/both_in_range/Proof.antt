@@ -5,14 +5,27 @@ use borrow.Author.Needs.{needs}
 use Rattle.soft.proofs.both_in_range.Statement.{statement}
 use Rattle.soft.proofs.both_in_range.Tie as tie
 
+four-in-range-requires : tie.Need-four-in-range-requires
+four-in-range-requires c κs = search needs
+
+four-in-range-requires-2 : tie.Need-four-in-range-requires-2
+four-in-range-requires-2 c κs = search needs
+
+returns : tie.Need-returns
+returns c = ap₂ _&&_ (c .before .four-in-range .ensures) (c .four-in-range2 .ensures)
+
 all-in-range-requires : tie.Need-all-in-range-requires
 all-in-range-requires c κs = search needs
 
-all-in-range-requires-2 : tie.Need-all-in-range-requires-2
-all-in-range-requires-2 c κs = search needs
-
-returns : tie.Need-returns
-returns c = ap₂ _&&_ (c .before .all-in-range .ensures) (c .all-in-range2 .ensures)
+returns-2 : tie.Need-returns-2
+returns-2 c = c .all-in-range .ensures
 
 pub both-in-range-spec : {M : Type 1} → statement M
-both-in-range-spec = tie.close (tie.spec all-in-range-requires all-in-range-requires-2 returns)
+both-in-range-spec =
+    tie.close
+    (tie.spec
+    four-in-range-requires
+    four-in-range-requires-2
+    returns
+    all-in-range-requires
+    returns-2)

@@ -1,6 +1,6 @@
 -- `constant` meets its contract: what found holds are the coefficients.
 use mathlib.Core.Path.{refl}
-use Rattle.soft.proofs.ReadLaws.{found-below, constant-found}
+use Rattle.soft.proofs.ReadLaws.{found-coefficients, constant-found}
 use borrow.Author.Needs.{needs}
 use Rattle.soft.proofs.constant.Statement.{statement}
 use Rattle.soft.proofs.constant.Tie as tie
@@ -11,7 +11,7 @@ slice-aggregate-quarter-turns c = search needs
 quarter-turns-requires : tie.Need-quarter-turns-requires
 quarter-turns-requires c κs =
     let s = c .before .before .before .before in
-    (s .pre .0 .high, s .pre .1 .size, refl, found-below _ _ _ _ (s .pre .1))
+    (s .pre .0 .low, s .pre .0 .high, found-coefficients _ _ _ _ (s .pre .1), refl)
 
 slice-aggregate-constant-sums : tie.Need-slice-aggregate-constant-sums
 slice-aggregate-constant-sums c = search needs

@@ -1,4 +1,5 @@
 -- `slice_refusal` meets its contract, by the tests that led to each answer.
+use mathlib.Core.Path.{sym, _∙_}
 use mathlib.Core.Bool.{true, false}
 use Rattle.soft.proofs.Refusals.{slice-re, slice-im, slice-range}
 use borrow.Author.Needs.{needs}
@@ -15,7 +16,7 @@ returns-2 : tie.Need-returns-2
 returns-2 c = let s = c .before .before in slice-im _ _ _ _ (s .pow2 .ensures) (c .before .if1 .left) (c .if2 .taken)
 
 both-in-range-requires : tie.Need-both-in-range-requires
-both-in-range-requires c κs = search needs
+both-in-range-requires c κs = c .before .if1 .left ∙ sym (c .if2 .left)
 
 returns-3 : tie.Need-returns-3
 returns-3 c =

@@ -22,7 +22,7 @@ slice-aggregate-coefficients : tie.Need-slice-aggregate-coefficients
 slice-aggregate-coefficients c = search needs
 
 coefficients-requires : tie.Need-coefficients-requires
-coefficients-requires c κs = (read-accepted _ _ _ _ (sym (c .before .before .sample-refusal .ensures) ∙ c .before .if1 .left) .0, refl)
+coefficients-requires c κs = (read-accepted _ _ _ _ (sym (c .before .before .sample-refusal .ensures) ∙ c .before .if1 .left) .0, refl, refl)
 
 returns-2 : tie.Need-returns-2
 unfolding softAnswered

@@ -10,23 +10,23 @@ use Rattle.samples.proofs.SumsLaws.{backTo}
 use Rattle.sums.specs.Pair.{pair}
 use Rattle.sums.specs.Work.{coefficientsIn}
 use Rattle.sums.proofs.Steps.{sample-is}
-use Rattle.sums.proofs.TurnLaws.{back-none, back-next, back-end}
+use Rattle.sums.proofs.TurnLaws.{turns-below, back-none, back-next, back-end}
 use borrow.Author.Needs.{needs}
 use Rattle.sums.proofs.constant_sums.Statement.{statement}
 use Rattle.sums.proofs.constant_sums.Tie as tie
 
 abbrev Inv-loop : tie.InvT-loop
-Inv-loop m found turns re im all₀ i₀ i-end all i = (i ≤ i-end) × (i-end ≡ length re) × (pair all ≡ backTo f32 m (coefficientsIn found) (sample f32 re im) i)
+Inv-loop m found turns re im all₀ many i₀ i-end all i = (i ≤ i-end) × (i-end ≡ length re) × (pair all ≡ backTo f32 m (coefficientsIn found) (sample f32 re im) i)
 
 abbrev μ-loop : tie.MeasureT-loop
-μ-loop m found turns re im all₀ i₀ i-end all i = i-end - i
+μ-loop m found turns re im all₀ many i₀ i-end all i = i-end - i
 
 loop-holds : tie.Need-loop-holds Inv-loop μ-loop
 unfolding pair
 loop-holds c = (omega arith, refl, back-none _ _ _ _)
 
-shared-slice-read-turn-back : tie.Need-shared-slice-read-turn-back Inv-loop μ-loop
-shared-slice-read-turn-back c =
+shared-slice-read-turn : tie.Need-shared-slice-read-turn Inv-loop μ-loop
+shared-slice-read-turn c =
     let s = c .before .before .before .before .before .before .before in
     omega (arith, s .pre .0 .reals, s .pre .1 .size, pow-mono {i = s .args .m} {j = 8} (s .pre .0 .high))
 
@@ -38,8 +38,11 @@ part-requires-2 c κs =
     let s = c .before .before .before .before .before .before .before .before in
     omega (arith, s .pre .0 .reals, s .pre .0 .imaginaries)
 
-turn-back-requires : tie.Need-turn-back-requires Inv-loop μ-loop
-turn-back-requires c κs = search needs
+turn-requires : tie.Need-turn-requires Inv-loop μ-loop
+turn-requires c κs =
+    let l = c .before .before .before .before in
+    let s = l .before .before .before .before .before in
+    turns-below _ _ _ (s .pre .1) (l .loop .i) (omega (arith, s .pre .0 .reals))
 
 add-requires : tie.Need-add-requires Inv-loop μ-loop
 add-requires c κs = search needs
@@ -55,7 +58,7 @@ loop-again c =
     let t = c .before in
     let l = t .before .before .before .before .before in
     let s = l .before .before .before .before .before in
-    (omega arith, refl, back-next _ _ _ _ (l .loop .i) _ (pair (l .loop .all)) _ _ (l .loop .inv .2) (s .pre .1 .each (l .loop .i) (omega (arith, s .pre .0 .reals))) (sample-is _ _ (l .loop .i) _ _ (t .before .before .part .ensures) (t .before .part2 .ensures)) (c .add .ensures ∙ ap (plus f32 (pair (l .loop .all))) (t .turn-back .ensures)))
+    (omega arith, refl, back-next _ _ _ _ (l .loop .i) _ (pair (l .loop .all)) _ _ (l .loop .inv .2) (s .pre .1 .each (l .loop .i) (omega (arith, s .pre .0 .reals))) (sample-is _ _ (l .loop .i) _ _ (t .before .before .part .ensures) (t .before .part2 .ensures)) (c .add .ensures ∙ ap (plus f32 (pair (l .loop .all))) (t .turn .ensures)))
 
 returns : tie.Need-returns Inv-loop μ-loop
 returns c =
@@ -69,10 +72,10 @@ constant-sums-spec =
     Inv-loop
     μ-loop
     loop-holds
-    shared-slice-read-turn-back
+    shared-slice-read-turn
     part-requires
     part-requires-2
-    turn-back-requires
+    turn-requires
     add-requires
     add-i
     loop-less

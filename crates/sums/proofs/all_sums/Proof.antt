@@ -1,0 +1,39 @@
+-- `all_sums` meets its contract, by the two ways to the sums.
+use Rattle.sums.proofs.RowLaws.{all-by}
+use borrow.Author.Needs.{needs}
+use Rattle.sums.proofs.all_sums.Statement.{statement}
+use Rattle.sums.proofs.all_sums.Tie as tie
+
+many-sums-requires : tie.Need-many-sums-requires
+many-sums-requires c κs = search needs
+
+low-end-requires : tie.Need-low-end-requires
+low-end-requires c κs = search needs
+
+low-sums-requires : tie.Need-low-sums-requires
+low-sums-requires c κs = search needs
+
+same-length : tie.Need-same-length
+same-length c = search needs
+
+same-length-2 : tie.Need-same-length-2
+same-length-2 c = search needs
+
+returns : tie.Need-returns
+returns c =
+    let l = c .before .before .before .before in
+    let e = l .before .before .before in
+    let h = e .before .before .before .before .before in
+    let s = h .before .before .before .before .before .before .before in
+    all-by _ _ _ (e .low-end .result) _ _ _ _ (s .pre .0) (e .low-end .ensures .1) (e .low-end .ensures .2) (h .many-sums .ensures .2) (l .low-sums .ensures)
+
+pub all-sums-spec : {M : Type 1} → statement M
+all-sums-spec =
+    tie.close
+    (tie.spec
+    many-sums-requires
+    low-end-requires
+    low-sums-requires
+    same-length
+    same-length-2
+    returns)
