@@ -94,7 +94,7 @@ fn list_word<W: Write>(session: &mut Session, word: &[u8; 16], out: &mut Output<
     out.number(session.used * SLOT_MS);
     session.used += 1;
     let mut message = [0; 5];
-    let Ok(reading) = safe::read(4, 4, &mut message, word) else {
+    let Ok(reading) = safe::read_each(4, 4, &mut message, word) else {
         session.reference = None;
         return out.text(b"doubtful\n");
     };
