@@ -8,7 +8,8 @@ use mathlib.Core.List.{List, [], map}
 use lib.IntN.{ℤ, pos}
 use lib.ListN.{length, getD, length-map, List·getD-map}
 use lib.Ieee.{Float}
-use Rattle.theory.specs.Sum.{at}
+use Rattle.theory.proofs.EveryLaws.{every-at, every-of}
+use Rattle.theory.specs.Sum.{at, every}
 use Rattle.theory.specs.Index.{bit}
 use Rattle.theory.specs.Code.{linear, symbolAt, codeword, Symbols}
 use Rattle.theory.specs.Question.{accepted}
@@ -17,8 +18,8 @@ use Rattle.theory.proofs.CodeLaws.{linear-partner, symbolAt-lt, codeword-length
 use Rattle.samples.specs.Numbers.{f32, integers}
 use Rattle.samples.specs.Complex.{sample, term, turnBack, ideal}
 use Rattle.samples.specs.Decision.{isSure, symbol}
-use Rattle.samples.specs.Soft.{every, inRange, allInRange, softVote, readAnswer, readMessage, cleanRe, cleanIm}
-use Rattle.samples.proofs.SumsLaws.{every-at, every-of, within}
+use Rattle.samples.specs.Soft.{inRange, allInRange, softVote, readAnswer, readMessage, cleanRe, cleanIm}
+use Rattle.samples.proofs.SumsLaws.{within}
 use Rattle.exact.specs.Whole.{Whole, Wholes}
 use Rattle.exact.proofs.WholeLaws.{whole-neg, whole-number}
 use Rattle.exact.proofs.Leans.{Leans, leansTo, leans-tested}

@@ -9,6 +9,7 @@ use lib.IntN.{ℤ}
 use lib.ListN.{length}
 use lib.Pow.{pow-pos}
 use lib.Ieee.{Float}
+use Rattle.theory.proofs.EveryLaws.{every-of}
 use Rattle.theory.specs.Sum.{at}
 use Rattle.theory.specs.Index.{bit}
 use Rattle.theory.specs.Code.{linear}
@@ -19,7 +20,6 @@ use Rattle.samples.specs.Numbers.{f32, integers}
 use Rattle.samples.specs.Complex.{Complex, sample, term, turnBack}
 use Rattle.samples.specs.Decision.{sure, decide, isSure, symbol}
 use Rattle.samples.specs.Soft.{voteSums, coefficient, constantSums, decision, softMessage, allInRange, allSure, voteRefusal, voteAnswer, softVote, readRefusal, readAnswer, readMessage}
-use Rattle.samples.proofs.SumsLaws.{every-of}
 use Rattle.samples.proofs.DecisionLaws.{constant-ext}
 use Rattle.exact.specs.Whole.{Wholes}
 use Rattle.exact.proofs.DecisionExact.{same-sure, same-symbol}

@@ -9,15 +9,15 @@ use lib.Dec.{eqb, leb}
 use lib.IntN.{ℤ, pos, negsuc, natAbs}
 use lib.ListN.{length, getD}
 use lib.Ieee.{Float}
-use Rattle.theory.specs.Sum.{tabulate}
+use Rattle.theory.proofs.EveryLaws.{every-at, every-ext}
+use Rattle.theory.specs.Sum.{tabulate, every}
 use Rattle.theory.specs.Question.{ask, isOrder, isMessageSize, answer, after}
 use Rattle.theory.proofs.SumLaws.{tabulate-length, tabulate-at, tabulate-is}
 use Rattle.theory.proofs.QuestionLaws.{and-true, ask-yes, order-bounds}
 use Rattle.samples.specs.Numbers.{f32, integers}
 use Rattle.samples.specs.Complex.{Complex, sample}
 use Rattle.samples.specs.Decision.{decide, symbol}
-use Rattle.samples.specs.Soft.{every, voteSums, coefficient, decision, softMessage, inRange, allInRange, allSure, voteRefusal, voteAnswer, softVote, readRefusal, readAnswer, readMessage}
-use Rattle.samples.proofs.SumsLaws.{every-at, every-ext}
+use Rattle.samples.specs.Soft.{voteSums, coefficient, decision, softMessage, inRange, allInRange, allSure, voteRefusal, voteAnswer, softVote, readRefusal, readAnswer, readMessage}
 use Rattle.samples.proofs.DecisionLaws.{constant-ext}
 use Rattle.exact.specs.Whole.{Whole, Wholes, WholeParts, Within, Same}
 use Rattle.exact.proofs.WholeLaws.{whole-neg, whole-number, whole-le}

@@ -2,35 +2,23 @@
 use Prim.Native.Nat.{ℕ, zero, suc, _+_, _*_, _-_, _/_, _%_, _^_, _≤_, _<_}
 use mathlib.Core.Path.{_≡_, refl, ap, ap₂, sym, _∙_}
 use mathlib.Core.Logic.{_⊎_, inl, inr}
-use mathlib.Core.Bool.{Bool, true, _&&_}
+use mathlib.Core.Bool.{true}
 use native.Mathlib.Omega.{arith}
-use native.Mathlib.Nat.{not-suc-le-zero, le-of-suc-le-suc, eq-or-lt-of-le, mod-eq-of-lt}
+use native.Mathlib.Nat.{not-suc-le-zero, le-of-suc-le-suc, mod-eq-of-lt}
 use borrow.Author.Tests.{eqb-true}
 use lib.Dec.{eqb}
 use lib.Bits.{bitAnd, and-mask, and-zero-r, and-le-l}
+use Rattle.theory.specs.Sum.{every}
 use Rattle.theory.specs.Index.{bit}
 use Rattle.theory.specs.Modular.{subMod}
 use Rattle.theory.specs.Question.{isAlphabet}
 use Rattle.theory.proofs.IndexLaws.{bit-lt}
 use Rattle.theory.proofs.ModularLaws.{subMod-code, subMod-lt}
-use Rattle.theory.proofs.QuestionLaws.{Alphabet, and-true, alphabet, alphabet-bounds, mask-mod}
+use Rattle.theory.proofs.QuestionLaws.{Alphabet, alphabet, alphabet-bounds, mask-mod}
+use Rattle.theory.proofs.EveryLaws.{every-at}
 use Rattle.digits.specs.Digit.{digit}
 use Rattle.digits.proofs.DigitLaws.{digit-lt, digit-and, digit-add, add-lt, digit-sub, sub-le, digit-times}
 use Rattle.lanes.specs.Lane.{Lanes, Below, ClearLanes, Blend}
-
--- a test of all numbers below n, by computation
-unfoldable pub every : ℕ → (ℕ → Bool) → Bool
-every zero p = true
-every (suc n) p = every n p && p n
-
-pub every-at : (n : ℕ) (p : ℕ → Bool) → every n p ≡ true → (i : ℕ) → i < n → p i ≡ true
-unfolding every
-every-at zero p e i l = absurd (not-suc-le-zero l)
-every-at (suc n) p e i l = go (eq-or-lt-of-le (le-of-suc-le-suc l)) (every-at n p (and-true (every n p) (p n) e .0) i)
-  where
-    go : (i ≡ n) ⊎ (i < n) → (i < n → p i ≡ true) → p i ≡ true
-    go (inl f) ih = ap p f ∙ and-true (every n p) (p n) e .1
-    go (inr m) ih = ih m
 
 -- the lanes of a number that is written out, by one computed test
 pub lanes-are : (x : ℕ) (f : ℕ → ℕ) → every 16 (λ t. eqb (digit 4 x t) (f t)) ≡ true → Lanes x f

@@ -8,7 +8,8 @@ use native.Mathlib.Nat.{zero-mul, suc-mul, one-mul, mul-zero, not-suc-le-zero, l
 use borrow.Author.Tests.{eqb-true, ltb-true, leb-true, lt-ltb, le-ltb}
 use lib.Dec.{eqb, ltb, leb}
 use lib.Pow.{pow-add, high}
-use Rattle.theory.specs.Sum.{sum}
+use Rattle.theory.proofs.EveryLaws.{every-at}
+use Rattle.theory.specs.Sum.{sum, every}
 use Rattle.theory.specs.Index.{bit, ifClear}
 use Rattle.theory.proofs.SumLaws.{sum-ext, sum-split, sum-const}
 use Rattle.theory.proofs.IndexLaws.{nthClear, enumerate}
@@ -17,7 +18,6 @@ use Rattle.digits.specs.Digit.{digit}
 use Rattle.digits.proofs.DigitLaws.{digit-under}
 use Rattle.lanes.specs.Lane.{offset}
 use Rattle.lanes.specs.Ballot.{laneBit, either, place, spot}
-use Rattle.lanes.proofs.LaneLaws.{every, every-at}
 
 -- a lane whose bit is 0 has its partner 2 ^ laneBit k lanes further on, at the place 2 ^ k further on
 up : ℕ → ℕ → Bool

@@ -5,7 +5,6 @@ use session::Missed;
 use session::Received;
 use session::Receiver;
 use session::Zone;
-use strap::Unpacked;
 ghost use mathlib.Core.Path.{_≡_};
 ghost use mathlib.Core.Bool.{true};
 ghost use mathlib.Core.List.{[], _∷_, _++_};
@@ -35,17 +34,6 @@ pub fn with_code(receiver: Receiver) -> Receiver
         m: 4,
         reference,
         used: receiver.used,
-    }
-}
-
-// The rate of a message that holds one.
-fn rate_of(message: &[u8]) -> u8
-    requires { ⌜ unpackRefusal (now message) ≡ 0 ⌝ }
-    ensures { λ r. ⌜ r ≡ rateOf (now (message .entry)) ⌝ }
-{
-    match strap::unpack(message) {
-        Unpacked::Report(report) => report.rate,
-        Unpacked::Refused(_) => 0,
     }
 }
 
@@ -139,7 +127,7 @@ fn list_word(
 {
     match receiver.receive(message, word) {
         Received::Read(next, delivery) => {
-            let rate = rate_of(message);
+            let rate = strap::rate_of(message);
             let end = put_reading(rate, delivery, out, at);
             Listed {
                 receiver: next,

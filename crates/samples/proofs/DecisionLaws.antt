@@ -3,11 +3,12 @@ use Prim.Native.Nat.{ℕ, zero, suc, _%_, _^_, _<_}
 use mathlib.Core.Path.{_≡_, refl, ap, _∙_}
 use mathlib.Core.Bool.{Bool, true, false, cond, _&&_}
 use native.Mathlib.Omega.{arith}
+use Rattle.theory.specs.Sum.{every}
 use Rattle.theory.proofs.CodeLaws.{linear-ext}
 use Rattle.samples.specs.Numbers.{Numbers}
 use Rattle.samples.specs.Complex.{Complex, turnBack}
 use Rattle.samples.specs.Decision.{sure, unsure, magnitude, isClear, decideBy, decide, isSure, symbol}
-use Rattle.samples.specs.Soft.{every, voteSums, coefficient, constantSums, decision, allSure}
+use Rattle.samples.specs.Soft.{voteSums, coefficient, constantSums, decision, allSure}
 use Rattle.samples.proofs.SumsLaws.{sums-ext}
 
 -- the first test taken out

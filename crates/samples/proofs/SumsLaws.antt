@@ -1,19 +1,16 @@
 -- Laws of running sums, for every kind of numbers. Assumes nothing.
 use Prim.Native.Nat.{ℕ, zero, suc, _+_, _*_, _%_, _^_, _<_}
 use mathlib.Core.Path.{_≡_, refl, ap, ap₂, sym, _∙_}
-use mathlib.Core.Bool.{Bool, true, false, _&&_}
 use mathlib.Core.List.{List, [], _∷_}
-use mathlib.Core.Logic.{_⊎_, inl, inr}
-use native.Mathlib.Nat.{not-suc-le-zero, eq-or-lt-of-le, le-of-suc-le-suc}
+use native.Mathlib.Nat.{not-suc-le-zero, le-of-suc-le-suc}
 use native.Mathlib.Numerals.{add-one}
 use native.Mathlib.Omega.{arith}
 use lib.ListN.{length, getD}
 use Rattle.theory.specs.Code.{linear}
 use Rattle.theory.proofs.IndexLaws.{nthClear}
-use Rattle.theory.proofs.QuestionLaws.{and-true}
 use Rattle.samples.specs.Numbers.{Numbers}
 use Rattle.samples.specs.Complex.{Complex, term, turnBack, plus, stepIfClear, upward, sums}
-use Rattle.samples.specs.Soft.{every, voteSums, constantSums}
+use Rattle.samples.specs.Soft.{voteSums, constantSums}
 use Rattle.samples.proofs.FoldLaws.{upward-ext, upward-clear}
 
 module _ {A : Type 0} (N : Numbers A) where
@@ -49,33 +46,6 @@ module _ {A : Type 0} (N : Numbers A) where
   pub back-all : (m : ℕ) (c : ℕ → ℕ) (y : ℕ → Complex A) → backTo m c y (2 ^ m) ≡ constantSums N m c y
   unfolding backTo constantSums
   back-all m c y = refl
-
-pub every-ext : (n : ℕ) (b c : ℕ → Bool) → ((i : ℕ) → i < n → b i ≡ c i) → every n b ≡ every n c
-unfolding every
-every-ext zero b c h = refl
-every-ext (suc n) b c h = ap₂ _&&_ (every-ext n b c (λ i l. h i (omega arith))) (h n (omega arith))
-
-pub every-at : (n : ℕ) (b : ℕ → Bool) → every n b ≡ true → (i : ℕ) → i < n → b i ≡ true
-unfolding every
-every-at zero b e i l = absurd (not-suc-le-zero l)
-every-at (suc n) b e i l = let (f, g) = and-true (every n b) (b n) e in go g (λ m. every-at n b f i m) (eq-or-lt-of-le (le-of-suc-le-suc l))
-  where
-    go : b n ≡ true → (i < n → b i ≡ true) → (i ≡ n) ⊎ (i < n) → b i ≡ true
-    go g ih (inl z) = rw z g
-    go g ih (inr m) = ih m
-
-pub every-of : (n : ℕ) (b : ℕ → Bool) → ((i : ℕ) → i < n → b i ≡ true) → every n b ≡ true
-unfolding every
-every-of zero b h = refl
-every-of (suc n) b h = rw (every-of n b (λ i l. h i (omega arith)), h n (omega arith))
-
--- one no is a no for all
-pub every-no : (n : ℕ) (b : ℕ → Bool) (i : ℕ) → i < n → b i ≡ false → every n b ≡ false
-every-no n b i l e = go (every n b) refl
-  where
-    go : (t : Bool) → every n b ≡ t → t ≡ false
-    go true f = sym (every-at n b f i l) ∙ e
-    go false f = refl
 
 -- within a list no default is read
 pub within : {A : Type 0} (l : List A) (i : ℕ) (d e : A) → i < length l → getD l i d ≡ getD l i e

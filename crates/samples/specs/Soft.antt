@@ -4,18 +4,13 @@ use mathlib.Core.Bool.{Bool, true, _&&_}
 use mathlib.Core.List.{List, [], map}
 use lib.Dec.{eqb, ltb}
 use lib.ListN.{length, getD}
-use Rattle.theory.specs.Sum.{tabulate}
+use Rattle.theory.specs.Sum.{every, tabulate}
 use Rattle.theory.specs.Index.{bit}
 use Rattle.theory.specs.Code.{linear, codeword}
 use Rattle.theory.specs.Question.{ask, isOrder, isMessageSize, Answer, answer, after}
 use Rattle.samples.specs.Numbers.{Numbers}
 use Rattle.samples.specs.Complex.{Complex, sample, term, turnBack, sums, ideal}
 use Rattle.samples.specs.Decision.{Decision, refused, decide, isSure, symbol}
-
--- whether b holds of every number below n
-unfoldable pub every : ℕ → (ℕ → Bool) → Bool
-every zero b = true
-every (suc n) b = every n b && b n
 
 -- the sums of the votes for coefficient k: each index i whose bit k is 0, with the partner at i + 2 ^ k
 unfoldable pub voteSums : {A : Type 0} → Numbers A → ℕ → ℕ → (ℕ → Complex A) → Complex A

@@ -7,8 +7,9 @@ use native.Mathlib.Numerals.{add-one}
 use lib.IntN.{pos}
 use lib.ListN.{length, getD}
 use lib.Ieee.{Float, binary32, ofBits, ofInt, neg, le}
+use Rattle.theory.specs.Sum.{every}
 use Rattle.samples.specs.Numbers.{f32}
-use Rattle.samples.specs.Soft.{every, inRange, allInRange}
+use Rattle.samples.specs.Soft.{inRange, allInRange}
 
 top-bits : ofBits binary32 1123942400 ≡ ofInt binary32 (pos 127)
 unfolding ofBits ofInt

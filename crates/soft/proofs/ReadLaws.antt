@@ -12,14 +12,14 @@ use lib.Dec.{eqb}
 use lib.ListN.{length, getD, take, set, length-set, length-take}
 use lib.Seq.{take-suc, take-suc-set, take-length, getD-set-same, getD-set-other, getD-take}
 use lib.Ieee.{Float}
-use Rattle.theory.specs.Sum.{at}
+use Rattle.theory.proofs.EveryLaws.{every-no}
+use Rattle.theory.specs.Sum.{at, every}
 use Rattle.theory.specs.Question.{ask, isOrder, isMessageSize, accepted, refused, answer, after}
 use Rattle.theory.proofs.SumLaws.{tabulate-is}
 use Rattle.samples.specs.Numbers.{f32}
 use Rattle.samples.specs.Complex.{Complex, sample}
 use Rattle.samples.specs.Decision.{Decision, decide, isSure, symbol}
-use Rattle.samples.specs.Soft.{every, voteSums, coefficient, constantSums, decision, softMessage, allInRange, allSure, readRefusal, readAnswer, readMessage}
-use Rattle.samples.proofs.SumsLaws.{every-no}
+use Rattle.samples.specs.Soft.{voteSums, coefficient, constantSums, decision, softMessage, allInRange, allSure, readRefusal, readAnswer, readMessage}
 use Rattle.samples.proofs.DecisionLaws.{symbol-lt, constant-ext, all-sure}
 use Rattle.sums.specs.Work.{Coefficients, coefficientsIn}
 use Rattle.soft.specs.Work.{sliceRefusal, sampleRefusal, sureTo, Found, constantDecision}

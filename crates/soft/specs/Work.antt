@@ -6,12 +6,12 @@ use mathlib.Core.List.{List}
 use lib.Dec.{eqb}
 use lib.ListN.{length}
 use lib.Ieee.{Float}
-use Rattle.theory.specs.Sum.{at}
+use Rattle.theory.specs.Sum.{at, every}
 use Rattle.theory.specs.Question.{ask, isOrder}
 use Rattle.samples.specs.Numbers.{f32}
 use Rattle.samples.specs.Complex.{sample}
 use Rattle.samples.specs.Decision.{Decision, decide, isSure}
-use Rattle.samples.specs.Soft.{every, voteSums, coefficient, constantSums, allInRange}
+use Rattle.samples.specs.Soft.{voteSums, coefficient, constantSums, allInRange}
 
 -- questions 7 and 10
 unfoldable pub sliceRefusal : ℕ → List Float → List Float → ℕ

@@ -53,7 +53,7 @@ pub fn unpack(message: &[u8]) -> Unpacked
 }
 
 // The rate of a message that holds one. It is summed from the highest coefficient on.
-fn rate_of(message: &[u8]) -> u8
+pub fn rate_of(message: &[u8]) -> u8
     requires { ⌜ unpackRefusal (now message) ≡ 0 ⌝ }
     ensures { λ r. ⌜ r ≡ rateOf (now (message .entry)) ⌝ }
 {

@@ -44,14 +44,6 @@ fn vote_term(yr: f32, yi: f32, pr: f32, pi: f32) -> Sums
     }
 }
 
-// The j-th index with bit k clear: j with a 0 put in at bit k.
-fn nth_clear(k: u32, j: usize) -> usize
-    requires { ⌜ (k < 8) × (j < 128) ⌝ }
-    ensures { λ r. ⌜ r ≡ nthClear k j ⌝ }
-{
-    j + ((j >> k) << k)
-}
-
 // The vote at place j of coefficient k, which is at index i.
 fn vote_at(m: u32, k: u32, j: usize, i: usize, re: &[f32], im: &[f32]) -> Sums
     requires { ⌜ Samples m (now re) (now im) × (k < m) × (j < length (now re) / 2) × (i ≡ nthClear k j) ⌝ }
@@ -74,8 +66,8 @@ pub fn vote_sums(m: u32, k: u32, re: &[f32], im: &[f32]) -> Sums
     let mut s = Sums { re: 0.0, im: 0.0 };
     for b in 0..re.len() / 4 {
         let j = 2 * b;
-        s = add(s, vote_at(m, k, j, nth_clear(k, j), re, im));
-        s = add(s, vote_at(m, k, j + 1, nth_clear(k, j + 1), re, im));
+        s = add(s, vote_at(m, k, j, tally::nth_clear(k, j), re, im));
+        s = add(s, vote_at(m, k, j + 1, tally::nth_clear(k, j + 1), re, im));
     }
     s
 }
@@ -87,7 +79,7 @@ fn put_row(m: u32, k: u32, b: usize, re: &[f32], im: &[f32], rows: &mut [f32])
 {
     let at = 16 * k as usize;
     for x in 0..8usize {
-        let i = nth_clear(k, 8 * b + x / 4 * 4) + x % 4;
+        let i = tally::nth_clear(k, 8 * b + x / 4 * 4) + x % 4;
         let z = vote_at(m, k, 8 * b + x, i, re, im);
         rows[at + x] = z.re;
         rows[at + 8 + x] = z.im;

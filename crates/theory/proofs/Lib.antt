@@ -8,4 +8,5 @@ pub mod WinnerLaws
 pub mod MarginLaws
 pub mod NearestLaws
 pub mod QuestionLaws
+pub mod EveryLaws
 pub mod TurnLaws

@@ -1,9 +1,10 @@
 -- `clear` meets its contract: each pattern has the lanes that it should, by computation.
 use mathlib.Core.Path.{refl}
 use native.Mathlib.Omega.{arith}
+use Rattle.theory.specs.Sum.{every}
 use Rattle.theory.specs.Index.{bit}
 use Rattle.digits.specs.Digit.{digit}
-use Rattle.lanes.proofs.LaneLaws.{every, clear-at}
+use Rattle.lanes.proofs.LaneLaws.{clear-at}
 use Rattle.lanes.proofs.clear.Statement.{statement}
 use Rattle.lanes.proofs.clear.Tie as tie
 
