@@ -2,6 +2,8 @@
 ghost use mathlib.Core.Path.{_≡_};
 ghost use Prim.Native.Nat.{ℕ, suc, _+_, _*_, _-_, _%_, _<_, _≤_, _^_};
 ghost use lib.ListN.{length, take};
+ghost use Rattle.theory.specs.Question.{isAlphabet, isOrder};
+ghost use mathlib.Core.Bool.{true};
 ghost use Rattle.codec.specs.Codec.{sizeRefusal, wordRefusal, encodeRefusal, encodeAnswer, encodeWord, encoded, decodeAnswer, decodeMessage, decoded};
 
 // What encode answers.
@@ -22,7 +24,97 @@ pub enum Decoded {
     Refused(u32),
 }
 
-// Questions 1, 2 and 5, which both calls ask first: the number of the first with a no, 0 where each has a yes.
+// Questions 5, 6 and 7 of Write, and the word where each has a yes: the number of the first with a no, or 0.
+fn write_sized(q: u32, m: u32, message: &[u8], word: &mut [u8]) -> u32
+    requires { ⌜ (isAlphabet q ≡ true) × (isOrder m ≡ true) ⌝ }
+    ensures answer { λ r. ⌜ r ≡ encodeRefusal q m (now (message .entry)) (now (word .entry)) ⌝ }
+    ensures buffer { λ r. ⌜ now (word .exit) ≡ encodeWord q m (now (message .entry)) (now (word .entry)) ⌝ }
+{
+    if message.len() != m as usize + 1 {
+        return 5;
+    }
+    if !questions::message_below(q, m, message) {
+        return 6;
+    }
+    if word.len() != questions::pow2(m) {
+        return 7;
+    }
+    codeword::write(q, m, message, word);
+    0
+}
+
+// Write for the orders below 4. Each order is written out, so that the compiler makes a body for each length.
+fn write_2_or_3(q: u32, m: u32, message: &[u8], word: &mut [u8]) -> u32
+    requires { ⌜ (isAlphabet q ≡ true) × (m < 4) ⌝ }
+    ensures answer { λ r. ⌜ r ≡ encodeRefusal q m (now (message .entry)) (now (word .entry)) ⌝ }
+    ensures buffer { λ r. ⌜ now (word .exit) ≡ encodeWord q m (now (message .entry)) (now (word .entry)) ⌝ }
+{
+    match m {
+        2 => write_sized(q, 2, message, word),
+        3 => write_sized(q, 3, message, word),
+        _ => 2,
+    }
+}
+
+// For 4 and 5.
+fn write_4_or_5(q: u32, m: u32, message: &[u8], word: &mut [u8]) -> u32
+    requires { ⌜ (isAlphabet q ≡ true) × (4 ≤ m) × (m < 6) ⌝ }
+    ensures answer { λ r. ⌜ r ≡ encodeRefusal q m (now (message .entry)) (now (word .entry)) ⌝ }
+    ensures buffer { λ r. ⌜ now (word .exit) ≡ encodeWord q m (now (message .entry)) (now (word .entry)) ⌝ }
+{
+    match m {
+        4 => write_sized(q, 4, message, word),
+        _ => write_sized(q, 5, message, word),
+    }
+}
+
+// For those above 6.
+fn write_7_or_8(q: u32, m: u32, message: &[u8], word: &mut [u8]) -> u32
+    requires { ⌜ (isAlphabet q ≡ true) × (6 < m) ⌝ }
+    ensures answer { λ r. ⌜ r ≡ encodeRefusal q m (now (message .entry)) (now (word .entry)) ⌝ }
+    ensures buffer { λ r. ⌜ now (word .exit) ≡ encodeWord q m (now (message .entry)) (now (word .entry)) ⌝ }
+{
+    match m {
+        7 => write_sized(q, 7, message, word),
+        8 => write_sized(q, 8, message, word),
+        _ => 2,
+    }
+}
+
+// For every order: the number of the first question with a no, or 0. The compiler takes a case of many for a rare one and keeps its body
+// apart, so the choice is made in small steps.
+fn write_any(q: u32, m: u32, message: &[u8], word: &mut [u8]) -> u32
+    ensures answer { λ r. ⌜ r ≡ encodeRefusal q m (now (message .entry)) (now (word .entry)) ⌝ }
+    ensures buffer { λ r. ⌜ now (word .exit) ≡ encodeWord q m (now (message .entry)) (now (word .entry)) ⌝ }
+{
+    if !questions::is_alphabet(q) {
+        return 1;
+    }
+    if m == 6 {
+        return write_sized(q, 6, message, word);
+    }
+    if m < 4 {
+        return write_2_or_3(q, m, message, word);
+    }
+    if m < 6 {
+        return write_4_or_5(q, m, message, word);
+    }
+    write_7_or_8(q, m, message, word)
+}
+
+// Write: fills the word with the message's codeword.
+pub fn encode(q: u32, m: u32, message: &[u8], word: &mut [u8]) -> Encoded
+    ensures answer { λ r. ⌜ encoded r ≡ encodeAnswer q m (now (message .entry)) (now (word .entry)) ⌝ }
+    ensures buffer { λ r. ⌜ now (word .exit) ≡ encodeWord q m (now (message .entry)) (now (word .entry)) ⌝ }
+{
+    let number = write_any(q, m, message, word);
+    if number != 0 {
+        return Encoded::Refused(number);
+    }
+    Encoded::Written
+}
+
+// Questions 1, 2 and 5: the number of the first with a no, 0 where each has a yes.
 fn size_refusal(q: u32, m: u32, message: &[u8]) -> u32
     ensures { λ r. ⌜ r ≡ sizeRefusal q m (now (message .entry)) ⌝ }
 {
@@ -36,36 +128,6 @@ fn size_refusal(q: u32, m: u32, message: &[u8]) -> u32
         return 5;
     }
     0
-}
-
-// The number of the first question of Write with a no, 0 where each has a yes.
-fn encode_refusal(q: u32, m: u32, message: &[u8], word: &[u8]) -> u32
-    ensures { λ r. ⌜ r ≡ encodeRefusal q m (now (message .entry)) (now (word .entry)) ⌝ }
-{
-    let number = size_refusal(q, m, message);
-    if number != 0 {
-        return number;
-    }
-    if !questions::message_below(q, m, message) {
-        return 6;
-    }
-    if word.len() != questions::pow2(m) {
-        return 7;
-    }
-    0
-}
-
-// Write: fills the word with the message's codeword.
-pub fn encode(q: u32, m: u32, message: &[u8], word: &mut [u8]) -> Encoded
-    ensures answer { λ r. ⌜ encoded r ≡ encodeAnswer q m (now (message .entry)) (now (word .entry)) ⌝ }
-    ensures buffer { λ r. ⌜ now (word .exit) ≡ encodeWord q m (now (message .entry)) (now (word .entry)) ⌝ }
-{
-    let number = encode_refusal(q, m, message, word);
-    if number != 0 {
-        return Encoded::Refused(number);
-    }
-    codeword::write(q as u8, m, message, word);
-    Encoded::Written
 }
 
 // The number of the first question of Read before 9 with a no, 0 where each has a yes.

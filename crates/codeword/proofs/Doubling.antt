@@ -12,6 +12,7 @@ use lib.Seq.{getD-set-same, getD-set-other}
 use lib.Pow.{pow-mono}
 use borrow.Author.Count.{below-none, below-more}
 use Rattle.theory.specs.Sum.{sum, at}
+use Rattle.theory.specs.Index.{bit}
 use Rattle.digits.specs.Digit.{digit}
 use Rattle.chunk.specs.Chunk.{Put}
 use Rattle.theory.specs.Code.{linear, symbolAt}
@@ -22,6 +23,17 @@ use Rattle.codeword.specs.Coded.{Fits, Coded, Small, Doubled}
 
 pub doubled-none : (q len a : ℕ) (w : List ℕ) → Doubled q len a w w 0
 doubled-none q len a w = record { size = refl; low = λ j l. refl; high = below-none _ }
+
+-- one place more
+pub doubled-next : (q len a : ℕ) (w v : List ℕ) (i x : ℕ) → i < len → 2 * len ≤ length w → Doubled q len a w v i → x ≡ (at v i + a) % q
+    → Doubled q len a w (set v (i + len) x) (i + 1)
+doubled-next q len a w v i x l room d e = record {
+  size = simp length-set (d .size);
+  low = λ j h. getD-set-other v (i + len) j x 0 (λ z. absurd (omega (arith, z))) ∙ d .low j h;
+  high = below-more (λ j. at (set v (i + len) x) (j + len) ≡ (at w j + a) % q) i
+      (λ j h. getD-set-other v (i + len) (j + len) x 0 (λ z. absurd (omega (arith, z))) ∙ d .high j h)
+      (getD-set-same v (i + len) x 0 (omega (arith, d .size)) ∙ e ∙ ap (λ y. (y + a) % q) (d .low i l));
+}
 
 -- eight places more, in the digits of x
 pub doubled-eight : (q len a : ℕ) (w v u : List ℕ) (i n p x : ℕ) → i + 8 ≤ len → n ≡ i + 8 → p ≡ i + len → Doubled q len a w v i → ((l : ℕ) → l < 8 → digit 8 x l ≡ (at v (i + l) + a) % q)
@@ -74,12 +86,12 @@ coded-loop q k len a s w v e f d t = rw add-one (coded-next q k s w v d (turn e 
 pub coded-below : (q k : ℕ) (s w : List ℕ) → 0 < q → Coded q k s w → (i : ℕ) → i < 2 ^ k → at w i < q
 coded-below q k s w h d i l = rw (d .each i l) (symbolAt-lt q k (at s) i h)
 
--- what the doubling of n chunks asks for and gives, where they are the word of k coefficients
-module _ (q k j n : ℕ) (s w : List ℕ) (e : k ≡ j) (f : 8 * n ≡ 2 ^ j) (d : Coded q k s w) where
-  pub grow-asks : Fits q (k + 1) s w → (isAlphabet q ≡ true) × (at s (j + 1) < q) × (16 * n ≤ length w) × (n ≤ 16) × ((i : ℕ) → i < 8 * n → at w i < q)
+-- what the doubling of len places asks for and gives, where they are the word of k coefficients
+module _ (q k j len : ℕ) (s w : List ℕ) (e : k ≡ j) (f : len ≡ 2 ^ j) (d : Coded q k s w) where
+  pub grow-asks : Fits q (k + 1) s w → (isAlphabet q ≡ true) × (at s (j + 1) < q) × (2 * len ≤ length w) × (len ≤ 128) × ((i : ℕ) → i < len → at w i < q)
   grow-asks h =
       let b : (2 ≤ q) × (q ≤ 8) = alphabet-bounds q (alphabet q (h .alphabet)) in
-      let g : 2 ^ (k + 1) ≡ 16 * n = ap (λ x. 2 ^ x) (add-one k) ∙ pow-succ' 2 k ∙ ap (λ x. 2 * 2 ^ x) e ∙ omega (arith, f) in (
+      let g : 2 ^ (k + 1) ≡ 2 * len = ap (λ x. 2 ^ x) (add-one k) ∙ pow-succ' 2 k ∙ ap (λ x. 2 * 2 ^ x) e ∙ omega (arith, f) in (
         h .alphabet,
         h .below (j + 1) (omega arith),
         omega (arith, h .room),
@@ -87,8 +99,13 @@ module _ (q k j n : ℕ) (s w : List ℕ) (e : k ≡ j) (f : 8 * n ≡ 2 ^ j) (d
         λ i l. coded-below q k s w (omega arith) d i (omega (arith, f, ap (λ x. 2 ^ x) e)),
       )
 
-  pub grow-gives : (v : List ℕ) → Doubled q (8 * n) (at s (j + 1)) w v (8 * n) → (length v ≡ length w) × Coded q (k + 1) s v
-  grow-gives v t = (t .size, coded-loop q k (8 * n) (at s (j + 1)) s w v (f ∙ ap (λ x. 2 ^ x) (sym e)) (ap (λ x. at s (x + 1)) (sym e)) d t)
+  pub grow-gives : (v : List ℕ) → Doubled q len (at s (j + 1)) w v len → (length v ≡ length w) × Coded q (k + 1) s v
+  grow-gives v t = (t .size, coded-loop q k len (at s (j + 1)) s w v (f ∙ ap (λ x. 2 ^ x) (sym e)) (ap (λ x. at s (x + 1)) (sym e)) d t)
+
+-- the same for n chunks of eight places
+pub chunks-ask : (q a n : ℕ) (w : List ℕ) → (isAlphabet q ≡ true) × (a < q) × (2 * (8 * n) ≤ length w) × (8 * n ≤ 128) × ((i : ℕ) → i < 8 * n → at w i < q)
+    → (isAlphabet q ≡ true) × (a < q) × (16 * n ≤ length w) × (n ≤ 16) × ((i : ℕ) → i < 8 * n → at w i < q)
+chunks-ask q a n w (b, c, d, e, f) = (b, c, omega arith, omega arith, f)
 
 -- the word of j of the m coefficients fits where the whole word does
 pub fits-less : (q m j : ℕ) (s w v : List ℕ) → 2 ≤ j → j ≤ m → length v ≡ length w → Fits q m s w → Fits q j s v
@@ -107,3 +124,25 @@ fits-small q m s w h =
 
 pub coded-all : (q m k : ℕ) (s w : List ℕ) → k ≡ m → Coded q k s w → Coded q m s w
 coded-all q m k s w e d = rw e at d
+
+-- the places below i hold those of the word of s
+pub record Begun (q m : ℕ) (s w v : List ℕ) (i : ℕ) : Type 0 where
+  pub size : length v ≡ length w
+  pub each : (j : ℕ) → j < i → at v j ≡ symbolAt q m (at s) j
+
+pub begun-none : (q m : ℕ) (s w : List ℕ) → Begun q m s w w 0
+begun-none q m s w = record { size = refl; each = below-none _ }
+
+pub begun-next : (q m : ℕ) (s w v : List ℕ) (i x : ℕ) → i < length w → Begun q m s w v i → x ≡ symbolAt q m (at s) i → Begun q m s w (set v i x) (i + 1)
+begun-next q m s w v i x h b e = record {
+  size = simp length-set (b .size);
+  each = below-more (λ j. at (set v i x) j ≡ symbolAt q m (at s) j) i
+      (λ j l. getD-set-other v i j x 0 (λ z. absurd (omega (arith, z))) ∙ b .each j l)
+      (getD-set-same v i x 0 (omega (arith, b .size)) ∙ e);
+}
+
+-- the place at index i of the word of six coefficients, as code works it out
+pub six-symbol : (q i r : ℕ) (s : List ℕ) → r ≡ at s 0 + at s 1 * bit 0 i + at s 2 * bit 1 i + at s 3 * bit 2 i + at s 4 * bit 3 i + at s 5 * bit 4 i + at s 6 * bit 5 i
+    → r % q ≡ symbolAt q 6 (at s) i
+unfolding symbolAt linear sum
+six-symbol q i r s e = ap (λ x. x % q) (omega (arith, e))

@@ -1,10 +1,13 @@
-// The word of a message. Its first eight places are worked out in the bytes of one number; then, eight places at a time, the second half
-// of each block of 2^(k+1) places is the first half plus a_k.
+// The word of a message. Up to 64 places, the first eight are worked out in the bytes of one number, and then, eight places at a time, the
+// second half of each block of 2^(k+1) places is the first half plus a_k. Longer words start with 64 places, each from the bits of its
+// index, and the compiler works out sixteen at once. Every length is written out, so that there is a body for each.
 ghost use mathlib.Core.Path.{_≡_};
 ghost use mathlib.Core.Bool.{true};
-ghost use Prim.Native.Nat.{ℕ, _+_, _*_, _%_, _<_, _≤_};
+ghost use Prim.Native.Nat.{ℕ, suc, _+_, _*_, _-_, _%_, _<_, _≤_};
 ghost use lib.ListN.{length};
 ghost use Rattle.theory.specs.Sum.{at};
+ghost use Rattle.theory.specs.Index.{bit};
+ghost use Rattle.theory.specs.Code.{symbolAt};
 ghost use Rattle.theory.specs.Question.{isAlphabet};
 ghost use Rattle.digits.specs.Digit.{digit};
 ghost use Rattle.chunk.specs.Chunk.{Holds};
@@ -24,16 +27,24 @@ fn spread(a: u8) -> u64
     wide(a) * 0x0101010101010101
 }
 
-// Each byte modulo q, by a mask.
-fn reduced(q: u8, x: u64) -> u64
+// The mask that takes the remainder by q, in each byte.
+fn mask(q: u32) -> u64
+    requires { ⌜ isAlphabet q ≡ true ⌝ }
+    ensures { λ r. ⌜ Holds 8 r (λ l. q - 1) ⌝ }
+{
+    (q - 1) as u64 * 0x0101010101010101
+}
+
+// Each byte modulo q.
+fn reduced(q: u32, x: u64) -> u64
     requires { ⌜ isAlphabet q ≡ true ⌝ }
     ensures { λ r. ⌜ ((l : ℕ) → l < 8 → digit 8 r l ≡ digit 8 x l % q) ⌝ }
 {
-    x & spread(q - 1)
+    x & mask(q)
 }
 
 // Each byte plus a modulo q.
-fn plus(q: u8, a: u8, x: u64) -> u64
+fn plus(q: u32, a: u8, x: u64) -> u64
     requires { ⌜ (isAlphabet q ≡ true) × (a < q) × ((l : ℕ) → l < 8 → digit 8 x l < q) ⌝ }
     ensures { λ r. ⌜ ((l : ℕ) → l < 8 → digit 8 r l ≡ (digit 8 x l + a) % q) ⌝ }
 {
@@ -58,7 +69,7 @@ fn first_eight(s: &[u8]) -> u64
 }
 
 // Fills the places from 8 n to 16 n with those below 8 n plus a.
-fn double(q: u8, n: usize, a: u8, word: &mut [u8])
+fn double(q: u32, n: usize, a: u8, word: &mut [u8])
     requires { ⌜ (isAlphabet q ≡ true) × (a < q) × (16 * n ≤ length (now word)) × (n ≤ 16) × ((j : ℕ) → j < 8 * n → at (now word) j < q) ⌝ }
     ensures { λ r. ⌜ Doubled q (8 * n) a (now (word .entry)) (now (word .exit)) (8 * n) ⌝ }
 {
@@ -68,8 +79,26 @@ fn double(q: u8, n: usize, a: u8, word: &mut [u8])
     }
 }
 
-// The coefficient a_k more. Each length is written out, so that the compiler unrolls the loop.
-fn grow(q: u8, k: u32, message: &[u8], word: &mut [u8])
+// A symbol modulo q.
+fn remainder(q: u32, x: u8) -> u8
+    requires { ⌜ isAlphabet q ≡ true ⌝ }
+    ensures { λ r. ⌜ r ≡ x % q ⌝ }
+{
+    x & (q - 1) as u8
+}
+
+// The same, one place at a time.
+fn double_each(q: u32, n: usize, a: u8, word: &mut [u8])
+    requires { ⌜ (isAlphabet q ≡ true) × (a < q) × (2 * n ≤ length (now word)) × (n ≤ 128) × ((j : ℕ) → j < n → at (now word) j < q) ⌝ }
+    ensures { λ r. ⌜ Doubled q n a (now (word .entry)) (now (word .exit)) n ⌝ }
+{
+    for i in 0..n {
+        word[i + n] = remainder(q, word[i] + a);
+    }
+}
+
+// The coefficient a_k more: the short words eight places at a time, the long ones sixteen, which the compiler makes of single places.
+fn grow(q: u32, k: u32, message: &[u8], word: &mut [u8])
     requires { ⌜ (3 ≤ k) × Fits q (k + 1) (now message) (now word) × Coded q k (now message) (now word) ⌝ }
     ensures { λ r. ⌜ (length (now (word .exit)) ≡ length (now (word .entry))) × Coded q (k + 1) (now (message .entry)) (now (word .exit)) ⌝ }
 {
@@ -77,54 +106,118 @@ fn grow(q: u8, k: u32, message: &[u8], word: &mut [u8])
         3 => double(q, 1, message[4], word),
         4 => double(q, 2, message[5], word),
         5 => double(q, 4, message[6], word),
-        6 => double(q, 8, message[7], word),
-        _ => double(q, 16, message[8], word),
+        6 => double_each(q, 64, message[7], word),
+        _ => double_each(q, 128, message[8], word),
     }
 }
 
-// The coefficients from a_5 on.
-fn grow_on(q: u8, m: u32, message: &[u8], word: &mut [u8])
-    requires { ⌜ (5 ≤ m) × Fits q m (now message) (now word) × Coded q 5 (now message) (now word) ⌝ }
-    ensures { λ r. ⌜ (length (now (word .exit)) ≡ length (now (word .entry))) × Coded q m (now (message .entry)) (now (word .exit)) ⌝ }
+// The coefficient a at an index with bit k set, nothing elsewhere.
+fn part(k: u32, i: u8, a: u8) -> u8
+    requires { ⌜ k < 8 ⌝ }
+    ensures { λ r. ⌜ (r ≡ a * bit k i) × (r ≤ a) ⌝ }
 {
-    for k in 5..m {
-        grow(q, k, message, word);
-    }
+    if (i >> k) % 2 == 0 { 0 } else { a }
+}
+
+// The place at index i of the word of the constant a and six coefficients, before it is reduced.
+fn place(i: u8, a: u8, a0: u8, a1: u8, a2: u8, a3: u8, a4: u8, a5: u8) -> u8
+    requires { ⌜ (a < 8) × (a0 < 8) × (a1 < 8) × (a2 < 8) × (a3 < 8) × (a4 < 8) × (a5 < 8) ⌝ }
+    ensures { λ r. ⌜ r ≡ a + a0 * bit 0 i + a1 * bit 1 i + a2 * bit 2 i + a3 * bit 3 i + a4 * bit 4 i + a5 * bit 5 i ⌝ }
+{
+    let low = a + part(0, i, a0) + part(1, i, a1) + part(2, i, a2);
+    low + part(3, i, a3) + part(4, i, a4) + part(5, i, a5)
 }
 
 // The word of a message of two coefficients.
-fn write_four(q: u8, message: &[u8], word: &mut [u8])
+fn write_4(q: u32, message: &[u8], word: &mut [u8])
     requires { ⌜ Fits q 2 (now message) (now word) ⌝ }
     ensures { λ r. ⌜ (length (now (word .exit)) ≡ length (now (word .entry))) × Coded q 2 (now (message .entry)) (now (word .exit)) ⌝ }
 {
     chunk::put_four(reduced(q, first_four(message)), 0, word);
 }
 
-// The word of a message of three.
-fn write_eight(q: u8, message: &[u8], word: &mut [u8])
+// Of three.
+fn write_8(q: u32, message: &[u8], word: &mut [u8])
     requires { ⌜ Fits q 3 (now message) (now word) ⌝ }
     ensures { λ r. ⌜ (length (now (word .exit)) ≡ length (now (word .entry))) × Coded q 3 (now (message .entry)) (now (word .exit)) ⌝ }
 {
     chunk::put_eight(reduced(q, first_eight(message)), 0, word);
 }
 
-// Writes the word of the message into the first 2^m places. The short words, for which each step counts, return early.
-pub fn write(q: u8, m: u32, message: &[u8], word: &mut [u8])
+// Of four.
+fn write_16(q: u32, message: &[u8], word: &mut [u8])
+    requires { ⌜ Fits q 4 (now message) (now word) ⌝ }
+    ensures { λ r. ⌜ (length (now (word .exit)) ≡ length (now (word .entry))) × Coded q 4 (now (message .entry)) (now (word .exit)) ⌝ }
+{
+    write_8(q, message, word);
+    grow(q, 3, message, word);
+}
+
+// Of five.
+fn write_32(q: u32, message: &[u8], word: &mut [u8])
+    requires { ⌜ Fits q 5 (now message) (now word) ⌝ }
+    ensures { λ r. ⌜ (length (now (word .exit)) ≡ length (now (word .entry))) × Coded q 5 (now (message .entry)) (now (word .exit)) ⌝ }
+{
+    write_16(q, message, word);
+    grow(q, 4, message, word);
+}
+
+// Of six.
+fn write_64(q: u32, message: &[u8], word: &mut [u8])
+    requires { ⌜ Fits q 6 (now message) (now word) ⌝ }
+    ensures { λ r. ⌜ (length (now (word .exit)) ≡ length (now (word .entry))) × Coded q 6 (now (message .entry)) (now (word .exit)) ⌝ }
+{
+    write_32(q, message, word);
+    grow(q, 5, message, word);
+}
+
+// Of six, each place by itself. The symbols are read before any place is written, so that they can stay in registers.
+fn write_each_of_64(q: u32, s: &[u8], word: &mut [u8])
+    requires { ⌜ Fits q 6 (now s) (now word) ⌝ }
+    ensures { λ r. ⌜ (length (now (word .exit)) ≡ length (now (word .entry))) × Coded q 6 (now (s .entry)) (now (word .exit)) ⌝ }
+{
+    let a = s[0];
+    let a0 = s[1];
+    let a1 = s[2];
+    let a2 = s[3];
+    let a3 = s[4];
+    let a4 = s[5];
+    let a5 = s[6];
+    for i in 0..64usize {
+        word[i] = remainder(q, place(i as u8, a, a0, a1, a2, a3, a4, a5));
+    }
+}
+
+// Of seven.
+fn write_128(q: u32, message: &[u8], word: &mut [u8])
+    requires { ⌜ Fits q 7 (now message) (now word) ⌝ }
+    ensures { λ r. ⌜ (length (now (word .exit)) ≡ length (now (word .entry))) × Coded q 7 (now (message .entry)) (now (word .exit)) ⌝ }
+{
+    write_each_of_64(q, message, word);
+    grow(q, 6, message, word);
+}
+
+// Of eight.
+fn write_256(q: u32, message: &[u8], word: &mut [u8])
+    requires { ⌜ Fits q 8 (now message) (now word) ⌝ }
+    ensures { λ r. ⌜ (length (now (word .exit)) ≡ length (now (word .entry))) × Coded q 8 (now (message .entry)) (now (word .exit)) ⌝ }
+{
+    write_128(q, message, word);
+    grow(q, 7, message, word);
+}
+
+// Writes the word of the message into the first 2^m places.
+pub fn write(q: u32, m: u32, message: &[u8], word: &mut [u8])
     requires { ⌜ Fits q m (now message) (now word) ⌝ }
     ensures { λ r. ⌜ (length (now (word .exit)) ≡ length (now (word .entry))) × Coded q m (now (message .entry)) (now (word .exit)) ⌝ }
 {
-    if m == 2 {
-        write_four(q, message, word);
-        return;
+    match m {
+        2 => write_4(q, message, word),
+        3 => write_8(q, message, word),
+        4 => write_16(q, message, word),
+        5 => write_32(q, message, word),
+        6 => write_64(q, message, word),
+        7 => write_128(q, message, word),
+        _ => write_256(q, message, word),
     }
-    write_eight(q, message, word);
-    if m == 3 {
-        return;
-    }
-    grow(q, 3, message, word);
-    if m == 4 {
-        return;
-    }
-    grow(q, 4, message, word);
-    grow_on(q, m, message, word);
 }

@@ -28,7 +28,8 @@ use Rattle.session.specs.declared.Zone.the-variants.{Known, Unknown}
 use Rattle.session.specs.Slot.{slots, slotTime}
 use Rattle.session.specs.Sending.{openSender, sendRefusal, sendConstant}
 use Rattle.session.specs.Receiving.{openReceiver, isBelow, isMissing, receiveRefusal, missRefusal, receiveConstant, zoneFrom, zoneSymbol, receiveDelivery, zoneValues, deliveryValues, nextReceiver}
-use Rattle.session.proofs.SoundLaws.{sender-opened, receiver-opened, sender-sound, receiver-sound, alphabet-positive, near-symbols}
+use Rattle.theory.proofs.QuestionLaws.{alphabet-positive}
+use Rattle.session.proofs.SoundLaws.{sender-opened, receiver-opened, sender-sound, receiver-sound, near-symbols}
 use Rattle.history.specs.Calls.{Send, SenderSlot, senderCall, senderSlot, senderSlots, senderAfter, ReceiverCall, ReceiverSlot, read, doubtful, missed, receiverCall, receiverSlot, receiverSlots, receiverAfter}
 use Rattle.history.specs.Whole.{wordOf, Such, Accepted, Unmeasured, first, afterMissed, afterDoubtful, WholeSessions}
 use Rattle.history.proofs.Run.{before, before-next, Chain, chain, chain-made, chain-before, chain-end}

@@ -55,7 +55,7 @@ fn elect_short(q: u32, m: u32, units: &[u64; 8], word: &[u8], message: &mut [u8;
     message[0] = 0;
     let least = coefficients(q, m, &t, message);
     let mut code = [0u8; 32];
-    codeword::write(q as u8, m, message, &mut code);
+    codeword::write(q, m, message, &mut code);
     let r = race::winner(q, short::residues(q as usize, m, units, word, &code), 0);
     seat(word.len() as u32, least, r, message)
 }
@@ -108,7 +108,7 @@ fn elect_long(q: u32, m: u32, units: &[u64; 8], word: &[u8], message: &mut [u8; 
     message[0] = 0;
     let least = coefficients(q, m, &t, message);
     let mut code = [0u8; 256];
-    codeword::write(q as u8, m, message, &mut code);
+    codeword::write(q, m, message, &mut code);
     let mut y = [0u64; 16];
     let r = long_constant(q, m, &code, &table, &x, &mut y);
     seat(word.len() as u32, least, r, message)

@@ -1,37 +1,31 @@
--- The largest symbol of a list, met one after the other. Assumes nothing.
-use Prim.Native.Nat.{ℕ, suc, _+_, _≤_, _<_, max}
-use mathlib.Core.Path.{_≡_, refl, ap, sym, _∙_}
-use mathlib.Core.Bool.{Bool, true, false}
+-- The largest of some symbols, met one after the other. Assumes nothing.
+use Prim.Native.Nat.{ℕ, _+_, _≤_, _<_, max}
+use mathlib.Core.Path.{_≡_}
 use mathlib.Core.List.{List}
-use native.Mathlib.Nat.{not-suc-le-zero}
 use native.Mathlib.Omega.{arith}
-use borrow.Author.Count.{below-more}
-use borrow.Author.Tests.{lt-ltb, ltb-true, ltb-false}
+use borrow.Author.Count.{below-none, below-more}
+use borrow.Author.Tests.{lt-ltb, ltb-true}
 use lib.Dec.{ltb}
-use lib.ListN.{length}
 use Rattle.theory.specs.Sum.{at}
-use Rattle.theory.specs.Question.{allBelow}
-use Rattle.theory.proofs.QuestionLaws.{all-below, below-all}
+use Rattle.questions.specs.Part.{Tells}
 
--- top is the largest of the first n symbols of s, and 0 where there is none
-pub record Top (s : List ℕ) (n top : ℕ) : Type 0 where
-  pub bound : (i : ℕ) → i < n → at s i ≤ top
-  pub reached : (q : ℕ) → 0 < q → ((i : ℕ) → i < n → at s i < q) → top < q
+-- top is the largest of the n symbols of s from place i on, and 0 where there is none
+pub record Top (s : List ℕ) (i n top : ℕ) : Type 0 where
+  pub bound : (l : ℕ) → l < n → at s (i + l) ≤ top
+  pub reached : (q : ℕ) → 0 < q → ((l : ℕ) → l < n → at s (i + l) < q) → top < q
 
-pub top-none : (s : List ℕ) → Top s 0 0
-top-none s = record { bound = λ i l. absurd (not-suc-le-zero l); reached = λ q h f. h }
+pub top-none : (s : List ℕ) (i : ℕ) → Top s i 0 0
+top-none s i = record { bound = below-none _; reached = λ q h f. h }
 
-pub top-next : (s : List ℕ) (n top next : ℕ) → Top s n top → next ≡ max top (at s n) → Top s (n + 1) next
-top-next s n top next t e = record {
-  bound = below-more (λ i. at s i ≤ next) n (λ i l. omega (arith, t .bound i l)) (omega arith);
-  reached = λ q h f. omega (arith, t .reached q h (λ i l. f i (omega arith)), f n (omega arith));
+pub top-next : (s : List ℕ) (i n top next : ℕ) → Top s i n top → next ≡ max top (at s (i + n)) → Top s i (n + 1) next
+top-next s i n top next t e = record {
+  bound = below-more (λ l. at s (i + l) ≤ next) n (λ l k. omega (arith, t .bound l k)) (omega arith);
+  reached = λ q h f. omega (arith, t .reached q h (λ l k. f l (omega arith)), f n (omega arith));
 }
 
--- it is below q exactly where all symbols are
-pub top-below : (q : ℕ) (s : List ℕ) (n top : ℕ) → 0 < q → n ≡ length s → Top s n top → ltb top q ≡ allBelow q s
-top-below q s n top h e t = go (ltb top q) refl (allBelow q s) refl
-  where
-    go : (a : Bool) → ltb top q ≡ a → (b : Bool) → allBelow q s ≡ b → a ≡ b
-    go true x b y = sym (below-all q s (λ i l. omega (arith, ltb-true top q x, t .bound i (omega (arith, e))))) ∙ y
-    go false x true y = absurd (omega (arith, ltb-false top q x, t .reached q h (λ i l. all-below q s y i (omega (arith, e)))))
-    go false x false y = refl
+-- it is below q exactly where all of them are
+pub top-tells : (q : ℕ) (s : List ℕ) (i l n top x : ℕ) → 0 < q → l ≡ n → x ≡ top → Top s i l top → Tells (ltb x q) q n s i
+top-tells q s i l n top x h e f t = record {
+  yes = λ y j k. omega (arith, f, ltb-true x q y, t .bound j (omega (arith, e)));
+  all = λ g. lt-ltb x q (omega (arith, f, t .reached q h (λ j k. g j (omega (arith, e)))));
+}

@@ -36,16 +36,24 @@ fn larger(a: u8, b: u8) -> u8
     if a < b { b } else { a }
 }
 
-// Questions 6 and 8 of a list of any length: every symbol is below q. The maximum over all of them takes no early exit, so that the loop vectorises.
+// Whether the n symbols from place i on are below q, by their maximum. No early exit, so that the loop vectorises.
+fn top_below(q: u32, s: &[u8], i: usize, n: usize) -> bool
+    requires { ⌜ (0 < q) × (i + n ≤ length (now s)) ⌝ }
+    ensures { λ r. ⌜ Tells r q n (now (s .entry)) i ⌝ }
+{
+    let mut top: u8 = 0;
+    for j in 0..n {
+        top = larger(top, s[i + j]);
+    }
+    wide(top) < q
+}
+
+// Questions 6 and 8 of a list of any length: every symbol is below q.
 pub fn all_below(q: u32, s: &[u8]) -> bool
     requires { ⌜ 0 < q ⌝ }
     ensures { λ r. ⌜ r ≡ allBelow q (now (s .entry)) ⌝ }
 {
-    let mut top: u8 = 0;
-    for i in 0..s.len() {
-        top = larger(top, s[i]);
-    }
-    wide(top) < q
+    top_below(q, s, 0, s.len())
 }
 
 // A symbol as a number of q's width.
@@ -55,37 +63,37 @@ fn wide(x: u8) -> u32
     x as u32
 }
 
-// Whether the symbols in places 0, 1 and 2 are below q.
-fn three_below(q: u32, s: &[u8]) -> bool
-    requires { ⌜ 3 ≤ length (now s) ⌝ }
-    ensures { λ r. ⌜ Tells r q 3 (now (s .entry)) 0 ⌝ }
-{
-    wide(s[0]) < q && (wide(s[1]) < q && wide(s[2]) < q)
-}
-
-// The bits that no symbol below q has, in each of four bytes.
-fn high_bits(q: u32) -> u64
+// The mask that takes the remainder by q, in each of four bytes.
+fn mask_of_four(q: u32) -> u64
     requires { ⌜ isAlphabet q ≡ true ⌝ }
-    ensures { λ r. ⌜ Holds 4 r (λ l. 256 - q) ⌝ }
+    ensures { λ r. ⌜ Holds 4 r (λ l. q - 1) ⌝ }
 {
-    (256 - q) as u64 * 0x01010101
+    (q - 1) as u64 * 0x01010101
 }
 
-// Whether the four symbols from place i on are below q: none has a high bit.
+// Whether the four symbols from place i on are below q: taking remainders changes none.
 fn four_below(q: u32, s: &[u8], i: usize) -> bool
     requires { ⌜ (isAlphabet q ≡ true) × (i + 4 ≤ length (now s)) ⌝ }
     ensures { λ r. ⌜ Tells r q 4 (now (s .entry)) i ⌝ }
 {
-    chunk::four(s, i) & high_bits(q) == 0
+    let x = chunk::four(s, i);
+    x & mask_of_four(q) == x
 }
 
-// Question 6 of a message of three to nine symbols, with no loop: the first four and the last four are all but one of nine.
+// Question 6 of a message of three to nine symbols. Each length is written out and the tests of one length are joined, so that the
+// compiler leaves no loop and one branch.
 pub fn message_below(q: u32, m: u32, s: &[u8]) -> bool
     requires { ⌜ (isAlphabet q ≡ true) × (2 ≤ m) × (m ≤ 8) × (length (now s) ≡ m + 1) ⌝ }
     ensures { λ r. ⌜ r ≡ allBelow q (now (s .entry)) ⌝ }
 {
     if m == 2 {
-        return three_below(q, s);
+        return top_below(q, s, 0, 3);
     }
-    four_below(q, s, 0) && (four_below(q, s, m as usize - 3) && (m < 8 || four_below(q, s, 4)))
+    if m < 7 {
+        return four_below(q, s, 0) & four_below(q, s, m as usize - 3);
+    }
+    if m == 7 {
+        return top_below(q, s, 0, 8);
+    }
+    top_below(q, s, 1, 8) & top_below(q, s, 0, 1)
 }

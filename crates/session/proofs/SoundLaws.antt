@@ -12,7 +12,7 @@ use Rattle.theory.specs.Sum.{at}
 use Rattle.theory.specs.Code.{Symbols}
 use Rattle.theory.specs.Nearest.{nearest, isReadable, nearMessage}
 use Rattle.theory.specs.Question.{ask, after, isAlphabet, isOrder}
-use Rattle.theory.proofs.QuestionLaws.{and-true, ask-yes, alphabet, alphabet-bounds, message-size, symbols}
+use Rattle.theory.proofs.QuestionLaws.{and-true, ask-yes, alphabet-positive, message-size, symbols}
 use Rattle.theory.proofs.NearestLaws.{found-near}
 use Rattle.session.specs.declared.Sender.{Sender}
 use Rattle.session.specs.declared.Receiver.{Receiver}
@@ -68,9 +68,6 @@ pub receiver-sound : (s : Receiver) → ReceiverParts s → soundReceiver s ≡ 
 unfolding soundReceiver
 receiver-sound s p =
     true-and _ _ (p .alphabet) (true-and _ _ (p .order) (true-and _ _ (p .reference) (true-and _ _ (le-leb _ _ (p .used)) (p .start))))
-
-pub alphabet-positive : (q : ℕ) → isAlphabet q ≡ true → 0 < q
-alphabet-positive q e = omega (arith, alphabet-bounds q (alphabet q e))
 
 -- what an accepted send has shown
 pub record SendYes (s : Sender) (message : List ℕ) : Type 0 where

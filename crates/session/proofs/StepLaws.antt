@@ -15,7 +15,7 @@ use Rattle.theory.specs.Sum.{at}
 use Rattle.theory.specs.Code.{codeword, Symbols}
 use Rattle.theory.specs.Question.{isAlphabet, refused}
 use Rattle.theory.proofs.CodeLaws.{symbolAt-ext, codeword-is}
-use Rattle.theory.proofs.QuestionLaws.{order-bounds}
+use Rattle.theory.proofs.QuestionLaws.{alphabet-positive, order-bounds}
 use Rattle.theory.proofs.TurnLaws.{constant-set}
 use Rattle.codeword.specs.Coded.{Fits, Coded}
 use Rattle.session.specs.declared.Zone.{Zone}
@@ -25,7 +25,6 @@ use Rattle.session.specs.declared.Received.the-variants as R
 use Rattle.session.specs.Slot.{slotTime}
 use Rattle.session.specs.Receiving.{zoneFrom, zoneSymbol, delivery, nextReceiver}
 use Rattle.session.specs.Step.{Placed, Sendable, Delivers}
-use Rattle.session.proofs.SoundLaws.{alphabet-positive}
 
 -- the first i places of w are those of the message, and its length is that of w₀
 pub record Copied (message w₀ : List ℕ) (i : ℕ) (w : List ℕ) : Type 0 where

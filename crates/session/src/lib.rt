@@ -135,7 +135,7 @@ fn write(q: u32, m: u32, constant: u8, message: &[u8], word: &mut [u8])
 {
     let mut copy: [u8; 9] = [0; 9];
     place(constant, message, &mut copy);
-    codeword::write(q as u8, m, &copy, word);
+    codeword::write(q, m, &copy, word);
 }
 
 impl Sender {

@@ -137,13 +137,13 @@ module _ (m : ℕ) (re im : List Float) where
           even (suc m) h e = omega arith
       each l h false c = d .done l (omega arith) (leb-false 2 l c)
 
-  pub all-by : (end : ℕ) (sr si ur ui : List Float) → Samples m re im → (m < 5 → end ≡ m) → (5 ≤ m → end ≡ 2) → (5 ≤ m → SumsTo re im (length re / 2) sr si m)
+  pub all-by : (end : ℕ) (sr si ur ui : List Float) → Samples m re im → (m < 4 → end ≡ m) → (4 ≤ m → end ≡ 2) → (4 ≤ m → SumsTo re im (length re / 2) sr si m)
       → Stored (sumsOf m re im) 0 sr si ur ui end → AllSums m re im ur ui
-  all-by end sr si ur ui s few many t d = go (leb 5 m) refl
+  all-by end sr si ur ui s few many t d = go (leb 4 m) refl
     where
-      go : (c : Bool) → leb 5 m ≡ c → AllSums m re im ur ui
-      go true c = let l = leb-true 5 m c in all-both sr si ur ui s (t l) (stored-all (sumsOf m re im) 0 sr si ur ui end 2 (many l) d)
-      go false c = all-low sr si ur ui (stored-all (sumsOf m re im) 0 sr si ur ui end m (few (leb-false 5 m c)) d)
+      go : (c : Bool) → leb 4 m ≡ c → AllSums m re im ur ui
+      go true c = let l = leb-true 4 m c in all-both sr si ur ui s (t l) (stored-all (sumsOf m re im) 0 sr si ur ui end 2 (many l) d)
+      go false c = all-low sr si ur ui (stored-all (sumsOf m re im) 0 sr si ur ui end m (few (leb-false 4 m c)) d)
 
 -- ---- no votes yet
 -- eight zeros, as the code makes them

@@ -1,10 +1,11 @@
--- The indices with bit k clear, and one vote more. Assumes nothing.
-use Prim.Native.Nat.{ℕ, zero, suc, _+_, _*_, _/_, _%_, _^_, _≤_, _<_}
+-- The indices with bit k clear, their partners, and one vote more. Assumes nothing.
+use Prim.Native.Nat.{ℕ, zero, suc, _+_, _*_, _-_, _/_, _%_, _^_, _≤_, _<_}
 use mathlib.Core.Path.{_≡_, refl, ap, ap₂, sym, _∙_}
 use mathlib.Core.List.{List}
 use native.Mathlib.Nat.{div-mul-le-self, mod-eq-of-lt}
 use native.Mathlib.Omega.{arith}
-use lib.ListN.{length, getD}
+use lib.ListN.{length, getD, take, drop, length-drop}
+use lib.Seq.{take-all, getD-drop}
 use lib.Pow.{pow-mono}
 use lib.IntN.{pos}
 use lib.Ieee.{Float, binary32, ofBits, ofInt}
@@ -56,6 +57,39 @@ pub vote-is : (re im : List Float) (k j i gap : ℕ) (r y p : Complex Float) →
     → r ≡ term f32 y p → r ≡ voteAt re im k j
 unfolding voteAt
 vote-is re im k j i gap r y p f g Y P R = R ∙ ap₂ (term f32) (Y ∙ ap₂ (λ a b. sample f32 re im (a + b)) f g) (P ∙ ap (sample f32 re im) f)
+
+-- ---- the slice that starts at the gap
+abbrev pub onward : List Float → ℕ → List Float
+onward x gap = take (length x - gap) (drop gap x)
+
+onward-drop : (x : List Float) (gap : ℕ) → onward x gap ≡ drop gap x
+onward-drop x gap = take-all (length x - gap) (drop gap x) (omega (arith, length-drop gap x))
+
+onward-room : (x : List Float) (gap i : ℕ) → i + gap < length x → i < length (onward x gap)
+onward-room x gap i l = omega (arith, ap length (onward-drop x gap), length-drop gap x)
+
+onward-at : (x : List Float) (gap i : ℕ) (d : Float) → getD (onward x gap) i d ≡ getD x (i + gap) d
+onward-at x gap i d = ap (λ l. getD l i d) (onward-drop x gap) ∙ getD-drop gap x i d ∙ ap (λ n. getD x n d) (omega arith)
+
+onward-sample : (re im : List Float) (gap i : ℕ) → sample f32 (onward re gap) (onward im gap) i ≡ sample f32 re im (i + gap)
+unfolding sample
+onward-sample re im gap i = ap₂ complex (onward-at re gap i _) (onward-at im gap i _)
+
+-- the gap is within both slices
+pub gap-room : (m k gap : ℕ) (re im : List Float) → Samples m re im → k < m → gap ≡ 2 ^ k → (gap ≤ length re) × (gap ≤ length im) × (gap ≤ 256)
+gap-room m k gap re im s h g = omega (arith, g, s .high, s .reals, s .imaginaries, pow-mono {i = k} {j = m} (omega arith), pow-mono {i = m} {j = 8} (s .high))
+
+-- the index of vote j is within both slices, and within those that start at the gap
+pub onward-rooms : (m k j : ℕ) (re im : List Float) → Samples m re im → k < m → j < length re / 2 → (i gap : ℕ) → i ≡ nthClear k j → gap ≡ 2 ^ k
+    → (i < length re) × (i < length im) × (i < length (onward re gap)) × (i < length (onward im gap))
+onward-rooms m k j re im s h l i gap e g =
+    let r = partner-room m k j re im s h l i gap e g in
+    (omega (arith, r), omega (arith, r), onward-room re gap i (r .0), onward-room im gap i (r .1))
+
+-- the vote at place j, with the partner from the slices that start at the gap
+pub onward-vote : (re im : List Float) (k j i gap : ℕ) (r : Complex Float) → i ≡ nthClear k j → gap ≡ 2 ^ k
+    → r ≡ term f32 (sample f32 (onward re gap) (onward im gap) i) (sample f32 re im i) → r ≡ voteAt re im k j
+onward-vote re im k j i gap r e g R = vote-is re im k j i gap r _ _ e g (onward-sample re im gap i) refl R
 
 -- one vote more
 pub vote-next : (re im : List Float) (k j : ℕ) (s r z : Complex Float) → s ≡ votesTo f32 k (sample f32 re im) j → z ≡ voteAt re im k j → r ≡ plus f32 s z

@@ -58,16 +58,27 @@ fn vote_at(m: u32, k: u32, j: usize, i: usize, re: &[f32], im: &[f32]) -> Sums
     )
 }
 
+// The vote of the sample at index i, whose partner is at index i of the slices that start at the gap.
+fn vote_of(i: usize, re: &[f32], im: &[f32], yr: &[f32], yi: &[f32]) -> Sums
+    requires { ⌜ (i < length (now re)) × (i < length (now im)) × (i < length (now yr)) × (i < length (now yi)) ⌝ }
+    ensures { λ r. ⌜ pair r ≡ term f32 (sample f32 (now (yr .entry)) (now (yi .entry)) i) (sample f32 (now (re .entry)) (now (im .entry)) i) ⌝ }
+{
+    vote_term(part(yr, i), part(yi, i), part(re, i), part(im, i))
+}
+
 // Both sums of the votes for coefficient k, over the indices with bit k clear, upward: two places at a time.
 pub fn vote_sums(m: u32, k: u32, re: &[f32], im: &[f32]) -> Sums
     requires { ⌜ Samples m (now re) (now im) × (k < m) ⌝ }
     ensures { λ r. ⌜ pair r ≡ voteSums f32 m k (sample f32 (now (re .entry)) (now (im .entry))) ⌝ }
 {
     let mut s = Sums { re: 0.0, im: 0.0 };
+    let gap = questions::pow2(k);
+    let yr = &re[gap..];
+    let yi = &im[gap..];
     for b in 0..re.len() / 4 {
         let j = 2 * b;
-        s = add(s, vote_at(m, k, j, tally::nth_clear(k, j), re, im));
-        s = add(s, vote_at(m, k, j + 1, tally::nth_clear(k, j + 1), re, im));
+        s = add(s, vote_of(tally::nth_clear(k, j), re, im, yr, yi));
+        s = add(s, vote_of(tally::nth_clear(k, j + 1), re, im, yr, yi));
     }
     s
 }
@@ -157,9 +168,9 @@ fn low_sums(m: u32, end: u32, re: &[f32], im: &[f32], sr: &mut [f32], si: &mut [
 fn many_sums(m: u32, re: &[f32], im: &[f32], sr: &mut [f32], si: &mut [f32])
     requires { ⌜ Samples m (now re) (now im) × SumsTo (now re) (now im) 0 (now sr) (now si) m ⌝ }
     ensures { λ _. ⌜ (length (now (sr .exit)) ≡ 8) × (length (now (si .exit)) ≡ 8)
-        × (5 ≤ m → SumsTo (now (re .entry)) (now (im .entry)) (length (now (re .entry)) / 2) (now (sr .exit)) (now (si .exit)) m) ⌝ }
+        × (4 ≤ m → SumsTo (now (re .entry)) (now (im .entry)) (length (now (re .entry)) / 2) (now (sr .exit)) (now (si .exit)) m) ⌝ }
 {
-    if m < 5 {
+    if m < 4 {
         return;
     }
     let mut rows = [0.0f32; 128];
@@ -169,9 +180,9 @@ fn many_sums(m: u32, re: &[f32], im: &[f32], sr: &mut [f32], si: &mut [f32])
 // How many coefficients are summed one after the other: all where there are few samples, else the first two.
 fn low_end(m: u32) -> u32
     requires { ⌜ 2 ≤ m ⌝ }
-    ensures { λ r. ⌜ (r ≤ m) × (m < 5 → r ≡ m) × (5 ≤ m → r ≡ 2) ⌝ }
+    ensures { λ r. ⌜ (r ≤ m) × (m < 4 → r ≡ m) × (4 ≤ m → r ≡ 2) ⌝ }
 {
-    if m < 5 { m } else { 2 }
+    if m < 4 { m } else { 2 }
 }
 
 // The sums of the votes for every coefficient, put into sr and si, which hold zeros.
@@ -233,7 +244,7 @@ pub fn constant_sums(m: u32, found: &[u8], turns: &[u8], re: &[f32], im: &[f32])
     ensures { λ r. ⌜ pair r ≡ constantSums f32 m (coefficientsIn (now (found .entry))) (sample f32 (now (re .entry)) (now (im .entry))) ⌝ }
 {
     let mut all = Sums { re: 0.0, im: 0.0 };
-    let many = m > 5;
+    let many = m > 4;
     for i in 0..re.len() {
         let z = turn(many, turns[i], part(re, i), part(im, i));
         all = add(all, z);

@@ -28,9 +28,6 @@ coefficients-requires c κs =
     let s = c .before .before .before .before .before .before .before .before .before in
     (s .pre .0 .alphabet, s .pre .0 .high, length-set (s .args .message .now) 0 0 ∙ s .pre .3, getD-set-same (s .args .message .now) 0 0 0 (omega (arith, s .pre .3)))
 
-cast-write : tie.Need-cast-write
-cast-write c = omega (arith, bounds (c .before .before .before .before .before .before .before .before .before .before .args .q) (c .before .before .before .before .before .before .before .before .before .before .pre .0 .alphabet))
-
 slice-aggregate-write : tie.Need-slice-aggregate-write
 slice-aggregate-write c = search needs
 
@@ -70,7 +67,6 @@ elect-long-spec =
     long-tallies-requires
     element-write-message
     coefficients-requires
-    cast-write
     slice-aggregate-write
     write-requires
     slice-aggregate-long-constant

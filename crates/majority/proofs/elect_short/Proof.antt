@@ -18,9 +18,6 @@ element-write-message c = search needs
 coefficients-requires : tie.Need-coefficients-requires
 coefficients-requires c κs = search needs
 
-cast-write : tie.Need-cast-write
-cast-write c = omega (arith, bounds (c .before .before .before .before .before .before .args .q) (c .before .before .before .before .before .before .pre .0 .alphabet))
-
 slice-aggregate-write : tie.Need-slice-aggregate-write
 slice-aggregate-write c = search needs
 
@@ -62,7 +59,6 @@ elect-short-spec =
     tallies-requires
     element-write-message
     coefficients-requires
-    cast-write
     slice-aggregate-write
     write-requires
     slice-aggregate-residues

@@ -1,8 +1,6 @@
 -- `write` meets its contract: the writer of codewords gets the copy.
 use mathlib.Core.Path.{refl}
-use native.Mathlib.Omega.{arith}
 use borrow.Author.Needs.{needs}
-use Rattle.theory.proofs.QuestionLaws.{alphabet, alphabet-bounds}
 use Rattle.session.proofs.StepLaws.{message-fits, copy-fits, copy-coded}
 use Rattle.session.proofs.write.Statement.{statement}
 use Rattle.session.proofs.write.Tie as tie
@@ -12,11 +10,6 @@ slice-aggregate-place c = search needs
 
 place-requires : tie.Need-place-requires
 place-requires c κs = message-fits _ _ _ _ _ (c .before .before .before .pre)
-
-cast-write : tie.Need-cast-write
-cast-write c =
-    let s = c .before .before .before .before .before in
-    omega (arith, alphabet-bounds (s .args .q) (alphabet (s .args .q) (s .pre .alphabet)))
 
 slice-aggregate-write : tie.Need-slice-aggregate-write
 slice-aggregate-write c = search needs
@@ -41,7 +34,6 @@ write-spec =
     (tie.spec
     slice-aggregate-place
     place-requires
-    cast-write
     slice-aggregate-write
     write-requires
     same-length

@@ -1,10 +1,10 @@
--- `write_four` meets its contract: the digits that are written are the places of the word.
+-- `write_4` meets its contract: the digits that are written are the places of the word.
 use native.Mathlib.Omega.{arith}
 use Rattle.codeword.proofs.Lanes.{coded-put}
 use Rattle.codeword.proofs.Doubling.{fits-small}
 use borrow.Author.Needs.{needs}
-use Rattle.codeword.proofs.write_four.Statement.{statement}
-use Rattle.codeword.proofs.write_four.Tie as tie
+use Rattle.codeword.proofs.write_4.Statement.{statement}
+use Rattle.codeword.proofs.write_4.Tie as tie
 
 first-four-requires : tie.Need-first-four-requires
 first-four-requires c κs = fits-small _ 2 _ _ (c .before .before .pre)
@@ -25,5 +25,5 @@ returns c =
     let first = c .before .before .before .before .before .first-four .ensures in
     (put .size, coded-put _ 2 4 _ _ _ _ _ (omega arith) (λ l k. reduced l (omega arith)) first put)
 
-pub write-four-spec : {M : Type 1} → statement M
-write-four-spec = tie.close (tie.spec first-four-requires reduced-requires put-four-requires same-length returns)
+pub write-4-spec : {M : Type 1} → statement M
+write-4-spec = tie.close (tie.spec first-four-requires reduced-requires put-four-requires same-length returns)

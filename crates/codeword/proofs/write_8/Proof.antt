@@ -1,10 +1,10 @@
--- `write_eight` meets its contract: the digits that are written are the places of the word.
+-- `write_8` meets its contract: the digits that are written are the places of the word.
 use native.Mathlib.Omega.{arith}
 use Rattle.codeword.proofs.Lanes.{coded-put}
 use Rattle.codeword.proofs.Doubling.{fits-small}
 use borrow.Author.Needs.{needs}
-use Rattle.codeword.proofs.write_eight.Statement.{statement}
-use Rattle.codeword.proofs.write_eight.Tie as tie
+use Rattle.codeword.proofs.write_8.Statement.{statement}
+use Rattle.codeword.proofs.write_8.Tie as tie
 
 first-eight-requires : tie.Need-first-eight-requires
 first-eight-requires c κs = fits-small _ 3 _ _ (c .before .before .pre)
@@ -25,5 +25,5 @@ returns c =
     let first = c .before .before .before .before .before .first-eight .ensures in
     (put .size, coded-put _ 3 8 _ _ _ _ _ (omega arith) reduced first put)
 
-pub write-eight-spec : {M : Type 1} → statement M
-write-eight-spec = tie.close (tie.spec first-eight-requires reduced-requires put-eight-requires same-length returns)
+pub write-8-spec : {M : Type 1} → statement M
+write-8-spec = tie.close (tie.spec first-eight-requires reduced-requires put-eight-requires same-length returns)
