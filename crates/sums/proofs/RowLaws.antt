@@ -145,6 +145,30 @@ module _ (m : ℕ) (re im : List Float) where
       go true c = let l = leb-true 4 m c in all-both sr si ur ui s (t l) (stored-all (sumsOf m re im) 0 sr si ur ui end 2 (many l) d)
       go false c = all-low sr si ur ui (stored-all (sumsOf m re im) 0 sr si ur ui end m (few (leb-false 4 m c)) d)
 
+-- the sums of sixteen samples
+module _ (re im sr si : List Float) (v0 w0 v1 w1 v2 w2 v3 w3 : Float) where
+  pub four-stored : length sr ≡ 8 → length si ≡ 8 → complex v0 w0 ≡ sumsOf 4 re im 0 → complex v1 w1 ≡ sumsOf 4 re im 1 → complex v2 w2 ≡ sumsOf 4 re im 2 → complex v3 w3 ≡ sumsOf 4 re im 3
+      → AllSums 4 re im (set (set (set (set sr 0 v0) 1 v1) 2 v2) 3 v3) (set (set (set (set si 0 w0) 1 w1) 2 w2) 3 w3)
+  four-stored r i e0 e1 e2 e3 =
+      let f = sumsOf 4 re im in
+      let s0 = stored-next f 0 sr si sr si 0 v0 w0 (omega arith) (stored-none f 0 sr si r i) e0 in
+      let s1 = stored-next f 0 sr si _ _ 1 v1 w1 (omega arith) s0 e1 in
+      let s2 = stored-next f 0 sr si _ _ 2 v2 w2 (omega arith) s1 e2 in
+      all-low 4 re im sr si _ _ (stored-next f 0 sr si _ _ 3 v3 w3 (omega arith) s2 e3)
+
+-- the same as code stores them, one after the other
+pub four-put : (re im sr si r1 i1 r2 i2 r3 i3 r4 i4 : List Float) (v0 w0 v1 w1 v2 w2 v3 w3 : Float) → length sr ≡ 8 → length si ≡ 8
+    → (r1 ≡ set sr 0 v0) × (i1 ≡ set si 0 w0) → (r2 ≡ set r1 1 v1) × (i2 ≡ set i1 1 w1) → (r3 ≡ set r2 2 v2) × (i3 ≡ set i2 2 w2) → (r4 ≡ set r3 3 v3) × (i4 ≡ set i3 3 w3)
+    → (complex v0 w0 ≡ sumsOf 4 re im 0) × (complex v1 w1 ≡ sumsOf 4 re im 1) × (complex v2 w2 ≡ sumsOf 4 re im 2) × (complex v3 w3 ≡ sumsOf 4 re im 3) → AllSums 4 re im r4 i4
+four-put re im sr si r1 i1 r2 i2 r3 i3 r4 i4 v0 w0 v1 w1 v2 w2 v3 w3 r i (e1, f1) (e2, f2) (e3, f3) (e4, f4) (a, b, c, d) =
+    rw (e4, e3, e2, e1, f4, f3, f2, f1) (four-stored re im sr si v0 w0 v1 w1 v2 w2 v3 w3 r i a b c d)
+
+pub samples-by : (m n : ℕ) (re im : List Float) → m ≡ n → Samples m re im → Samples n re im
+samples-by m n re im e s = rw e at s
+
+pub all-sixteen : (m : ℕ) (re im sr si : List Float) → 4 ≡ m → AllSums 4 re im sr si → AllSums m re im sr si
+all-sixteen m re im sr si e a = rw e at a
+
 -- ---- no votes yet
 -- eight zeros, as the code makes them
 abbrev pub zeros : List Float

@@ -2,7 +2,7 @@
 use Prim.Native.Nat.{ℕ, zero, suc, _+_, _*_, _-_, _/_, _%_, _^_, _≤_, _<_}
 use mathlib.Core.Path.{_≡_, refl, ap, ap₂, sym, _∙_}
 use mathlib.Core.List.{List}
-use native.Mathlib.Nat.{div-mul-le-self, mod-eq-of-lt}
+use native.Mathlib.Nat.{div-mul-le-self}
 use native.Mathlib.Omega.{arith}
 use lib.ListN.{length, getD, take, drop, length-drop}
 use lib.Seq.{take-all, getD-drop}
@@ -15,7 +15,7 @@ use Rattle.samples.specs.Complex.{Complex, sample, term, plus}
 use Rattle.samples.specs.Soft.{voteSums}
 use Rattle.samples.proofs.SumsLaws.{sums-none, sums-next, votesTo, votes-all}
 use Rattle.sums.specs.Pair.{complex}
-use Rattle.sums.specs.Work.{Samples, voteAt}
+use Rattle.sums.specs.Work.{Samples, voteAt, votesOf, sumsOf}
 
 -- the numbers that the code writes
 pub zero-bits : ofBits binary32 0 ≡ ofInt binary32 (pos 0)
@@ -23,10 +23,6 @@ unfolding ofBits ofInt
 zero-bits = refl
 
 -- ---- the indices with bit k clear
-pub nth-code : (k j : ℕ) → k < 8 → j < 128 → j + j / 2 ^ k * 2 ^ k % 18446744073709551616 ≡ nthClear k j
-unfolding nthClear
-nth-code k j h l = ap (λ x. j + x) (mod-eq-of-lt (omega (arith, div-mul-le-self j (2 ^ k))))
-
 pub nth-small : (k j : ℕ) → j < 128 → nthClear k j < 256
 unfolding nthClear
 nth-small k j l = omega (arith, div-mul-le-self j (2 ^ k))
@@ -116,3 +112,8 @@ votes-end re im m k b s S h e f = e ∙ votes-all f32 m k (2 * b) (sample f32 re
     fours zero h e = absurd (omega arith)
     fours (suc zero) h e = absurd (omega arith)
     fours (suc (suc m)) h e = omega arith
+
+-- all votes of sixteen samples: eight
+pub votes-eight : (re im : List Float) (k j : ℕ) (s : Complex Float) → k < 4 → s ≡ votesOf re im j k → j ≡ 8 → s ≡ sumsOf 4 re im k
+unfolding votesOf sumsOf
+votes-eight re im k j s h e f = e ∙ votes-all f32 4 k j (sample f32 re im) h (omega (arith, f))

@@ -1,5 +1,5 @@
 -- The quarter turns as a word, and the samples turned back by them. Assumes nothing.
-use Prim.Native.Nat.{ℕ, zero, suc, _+_, _*_, _-_, _%_, _^_, _≤_, _<_}
+use Prim.Native.Nat.{ℕ, zero, suc, _+_, _*_, _-_, _%_, _^_, _≤_, _<_, _/_}
 use mathlib.Core.Path.{_≡_, refl, ap, ap₂, sym, _∙_}
 use mathlib.Core.List.{List, [], _∷_}
 use native.Mathlib.Nat.{mod-lt, zero-add, le-of-suc-le-suc}
@@ -18,7 +18,7 @@ use Rattle.samples.specs.Soft.{constantSums}
 use Rattle.samples.proofs.SumsLaws.{sums-none, sums-next, backTo, back-all}
 use Rattle.sums.proofs.Steps.{zero-bits}
 use Rattle.sums.specs.Pair.{complex}
-use Rattle.sums.specs.Work.{Coefficients, coefficientsIn, Turns}
+use Rattle.sums.specs.Work.{Samples, Coefficients, coefficientsIn, Turns}
 
 -- ---- the turns are a word
 pub turns-fit : (m : ℕ) (found t : List ℕ) → 2 ≤ m → m ≤ 8 → Coefficients m found → length t ≡ 256 → Fits 4 m found t
@@ -78,5 +78,29 @@ module _ (m : ℕ) (c : ℕ → ℕ) (re im : List Float) where
       ∙ ap₂ (plus f32) e (ap₂ (turnBack f32) f Z)
       ∙ sym (sums-next f32 i (λ i. turnBack f32 (linear m c i % 4) (sample f32 re im i)))
 
+  -- two samples more
+  pub back-more : (b t u : ℕ) (s r v z w : Complex Float) → s ≡ backTo f32 m c (sample f32 re im) (2 * b)
+      → t ≡ linear m c (2 * b) % 4 → z ≡ turnBack f32 t (sample f32 re im (2 * b)) → r ≡ plus f32 s z
+      → u ≡ linear m c (2 * b + 1) % 4 → w ≡ turnBack f32 u (sample f32 re im (2 * b + 1)) → v ≡ plus f32 r w
+      → v ≡ backTo f32 m c (sample f32 re im) (2 * (b + 1))
+  back-more b t u s r v z w e f Z R g W X =
+      back-next (2 * b + 1) u r v _ (back-next (2 * b) t s r _ e f refl (R ∙ ap (plus f32 s) Z)) g refl (X ∙ ap (plus f32 r) W)
+      ∙ ap (backTo f32 m c (sample f32 re im)) (omega arith)
+
   pub back-end : (i : ℕ) (s : Complex Float) → s ≡ backTo f32 m c (sample f32 re im) i → i ≡ 2 ^ m → s ≡ constantSums f32 m c (sample f32 re im)
   back-end i s e f = e ∙ ap (backTo f32 m c (sample f32 re im)) f ∙ back-all f32 m c (sample f32 re im)
+
+-- the turns at an index of the samples
+pub turn-room : (m : ℕ) (found turns : List ℕ) (re im : List Float) → Samples m re im → Turns m found turns → (i : ℕ) → i < length re
+    → (i < length turns) × (i < length re) × (i < length im) × (at turns i < 4)
+turn-room m found turns re im s t i h =
+    let l : i < 2 ^ m = omega (arith, s .reals) in
+    (omega (arith, t .size, pow-mono {i = m} {j = 8} (s .high)), h, omega (arith, s .reals, s .imaginaries), turns-below m found turns t i l)
+
+-- two samples at a time, all of them
+pub even-samples : (m : ℕ) {im : List Float} (re : List Float) (b : ℕ) → Samples m re im → b ≡ length re / 2 → 2 * b ≡ 2 ^ m
+even-samples m re b s e = go m (s .low) (s .reals)
+  where
+    go : (m : ℕ) → 2 ≤ m → length re ≡ 2 ^ m → 2 * b ≡ 2 ^ m
+    go zero h f = absurd (omega arith)
+    go (suc m) h f = omega (arith, e, f)

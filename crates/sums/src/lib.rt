@@ -1,14 +1,15 @@
 // Sums of soft samples for q = 4: those of the votes for a coefficient, and those of the samples turned back.
 ghost use mathlib.Core.Path.{_≡_};
 ghost use Prim.Native.Nat.{ℕ, suc, _+_, _*_, _/_, _<_, _≤_};
-ghost use lib.ListN.{length, getD};
+ghost use lib.ListN.{length, getD, set};
+ghost use Rattle.theory.specs.Sum.{at};
 ghost use Rattle.theory.proofs.IndexLaws.{nthClear};
 ghost use Rattle.samples.specs.Numbers.{f32};
 ghost use Rattle.samples.specs.Complex.{sample, term, turnBack, plus};
 ghost use Rattle.samples.specs.Soft.{voteSums, constantSums};
 ghost use Rattle.samples.proofs.SumsLaws.{votesTo};
 ghost use Rattle.sums.specs.Pair.{pair, complex};
-ghost use Rattle.sums.specs.Work.{Samples, voteAt, Put, Rows, SumsTo, sumsOf, Stored, AllSums, Coefficients, coefficientsIn, Turns};
+ghost use Rattle.sums.specs.Work.{Samples, voteAt, Put, Rows, SumsTo, votesOf, sumsOf, Stored, AllSums, Coefficients, coefficientsIn, Turns};
 
 // The real and the imaginary sum of a vote, kept together.
 pub struct Sums {
@@ -185,11 +186,76 @@ fn low_end(m: u32) -> u32
     if m < 4 { m } else { 2 }
 }
 
+// The sums of coefficient k in sixteen samples with the vote at place j more.
+fn more(k: u32, j: usize, s: Sums, re: &[f32], im: &[f32]) -> Sums
+    requires { ⌜ Samples 4 (now re) (now im) × (k < 4) × (j < 8) × (pair s ≡ votesOf (now re) (now im) j k) ⌝ }
+    ensures { λ r. ⌜ pair r ≡ votesOf (now (re .entry)) (now (im .entry)) (j + 1) k ⌝ }
+{
+    add(s, vote_at(4, k, j, tally::nth_clear(k, j), re, im))
+}
+
+// The sums of four coefficients.
+struct FourSums {
+    zeroth: Sums,
+    first: Sums,
+    second: Sums,
+    third: Sums,
+}
+
+// The sums of the votes in sixteen samples, for all coefficients at once: the additions of one wait while others go on.
+fn sixteen_sums(re: &[f32], im: &[f32]) -> FourSums
+    requires { ⌜ Samples 4 (now re) (now im) ⌝ }
+    ensures { λ r. ⌜ (pair (r .zeroth) ≡ sumsOf 4 (now (re .entry)) (now (im .entry)) 0) × (pair (r .first) ≡ sumsOf 4 (now (re .entry)) (now (im .entry)) 1)
+        × (pair (r .second) ≡ sumsOf 4 (now (re .entry)) (now (im .entry)) 2) × (pair (r .third) ≡ sumsOf 4 (now (re .entry)) (now (im .entry)) 3) ⌝ }
+{
+    let mut a = Sums { re: 0.0, im: 0.0 };
+    let mut b = Sums { re: 0.0, im: 0.0 };
+    let mut c = Sums { re: 0.0, im: 0.0 };
+    let mut d = Sums { re: 0.0, im: 0.0 };
+    for j in 0..8usize {
+        a = more(0, j, a, re, im);
+        b = more(1, j, b, re, im);
+        c = more(2, j, c, re, im);
+        d = more(3, j, d, re, im);
+    }
+    FourSums {
+        zeroth: a,
+        first: b,
+        second: c,
+        third: d,
+    }
+}
+
+// Puts the sums s into place k.
+fn store(k: usize, s: Sums, sr: &mut [f32], si: &mut [f32])
+    requires { ⌜ (k < length (now sr)) × (k < length (now si)) ⌝ }
+    ensures { λ _. ⌜ (now (sr .exit) ≡ set (now (sr .entry)) k (s .re)) × (now (si .exit) ≡ set (now (si .entry)) k (s .im)) ⌝ }
+{
+    sr[k] = s.re;
+    si[k] = s.im;
+}
+
+// The sums of all coefficients of sixteen samples.
+fn put_sixteen(re: &[f32], im: &[f32], sr: &mut [f32], si: &mut [f32])
+    requires { ⌜ Samples 4 (now re) (now im) × (length (now sr) ≡ 8) × (length (now si) ≡ 8) ⌝ }
+    ensures { λ _. ⌜ AllSums 4 (now (re .entry)) (now (im .entry)) (now (sr .exit)) (now (si .exit)) ⌝ }
+{
+    let s = sixteen_sums(re, im);
+    store(0, s.zeroth, sr, si);
+    store(1, s.first, sr, si);
+    store(2, s.second, sr, si);
+    store(3, s.third, sr, si);
+}
+
 // The sums of the votes for every coefficient, put into sr and si, which hold zeros.
 pub fn all_sums(m: u32, re: &[f32], im: &[f32], sr: &mut [f32], si: &mut [f32])
     requires { ⌜ Samples m (now re) (now im) × SumsTo (now re) (now im) 0 (now sr) (now si) m ⌝ }
     ensures { λ _. ⌜ AllSums m (now (re .entry)) (now (im .entry)) (now (sr .exit)) (now (si .exit)) ⌝ }
 {
+    if m == 4 {
+        put_sixteen(re, im, sr, si);
+        return;
+    }
     many_sums(m, re, im, sr, si);
     low_sums(m, low_end(m), re, im, sr, si);
 }
@@ -238,16 +304,25 @@ fn turn(many: bool, t: u8, x: f32, y: f32) -> Sums
     turn_back(t, x, y)
 }
 
-// Both sums of all samples, each turned back by its quarter turns, upward.
+// The sample at index i turned back by its quarter turns.
+fn turned(many: bool, i: usize, turns: &[u8], re: &[f32], im: &[f32]) -> Sums
+    requires { ⌜ (i < length (now turns)) × (i < length (now re)) × (i < length (now im)) × (at (now turns) i < 4) ⌝ }
+    ensures { λ r. ⌜ pair r ≡ turnBack f32 (at (now (turns .entry)) i) (sample f32 (now (re .entry)) (now (im .entry)) i) ⌝ }
+{
+    turn(many, turns[i], part(re, i), part(im, i))
+}
+
+// Both sums of all samples, each turned back by its quarter turns, upward: two at a time.
 pub fn constant_sums(m: u32, found: &[u8], turns: &[u8], re: &[f32], im: &[f32]) -> Sums
     requires { ⌜ Samples m (now re) (now im) × Turns m (now found) (now turns) ⌝ }
     ensures { λ r. ⌜ pair r ≡ constantSums f32 m (coefficientsIn (now (found .entry))) (sample f32 (now (re .entry)) (now (im .entry))) ⌝ }
 {
     let mut all = Sums { re: 0.0, im: 0.0 };
     let many = m > 4;
-    for i in 0..re.len() {
-        let z = turn(many, turns[i], part(re, i), part(im, i));
-        all = add(all, z);
+    for b in 0..re.len() / 2 {
+        let i = 2 * b;
+        all = add(all, turned(many, i, turns, re, im));
+        all = add(all, turned(many, i + 1, turns, re, im));
     }
     all
 }
