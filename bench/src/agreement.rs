@@ -30,8 +30,8 @@ fn reads(q: u32, m: u32, kind: Kind) -> Result<usize, String> {
         };
         let others = [
             ("read (a)", calls::plain_read as Read),
-            ("read (b)", calls::safe_read),
-            ("read (c)", calls::safe_read_each),
+            ("read (c)", calls::safe_read),
+            ("read (b)", calls::safe_read_each),
         ];
         for (name, call) in others {
             same(name, format!("q {q}, m {m}, {word:?}"), answer(proved::compare_decode), answer(call))?;
@@ -49,8 +49,8 @@ fn writes(q: u32, m: u32) -> Result<usize, String> {
         };
         let others = [
             ("write (a)", calls::plain_write as Write),
-            ("write (b)", calls::safe_write),
-            ("write (c)", calls::safe_write_each),
+            ("write (c)", calls::safe_write),
+            ("write (b)", calls::safe_write_each),
         ];
         for (name, call) in others {
             same(name, format!("q {q}, m {m}, {message:?}"), answer(proved::compare_encode), answer(call))?;

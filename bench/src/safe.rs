@@ -1,7 +1,7 @@
 //! The best safe Rust reader and writer: pairs by blocks, no division, the codeword by doubling, the distance from the tally.
-//! A tally is eight counters of eight bits in one u64. Reader and writer (b) have one body for all codes, q and m being
-//! arguments; (c) are the same with constant lengths, which const generics write: a reader for each of the 21 codes, a writer
-//! for each of the seven lengths.
+//! A tally is eight counters of eight bits in one u64. Reader and writer (b), the best, have constant lengths, which
+//! const generics write: a reader for each of the 21 codes, a writer for each of the seven lengths. (c) are the same with one
+//! body for all codes, q and m being arguments.
 
 use crate::questions::{all_below, is_alphabet, is_order, yes, Refusal};
 use crate::Reading;
@@ -83,7 +83,7 @@ fn read_into(
     Ok(Reading { wrong, margin: margin.min(constant.votes - constant.next) })
 }
 
-/// Reader (b): reads a word, or gives the number of the first question answered no: 1, 2, 5, 7, 8, 9.
+/// Reader (c): reads a word, or gives the number of the first question answered no: 1, 2, 5, 7, 8, 9.
 #[inline(always)]
 pub fn read(q: u32, m: u32, message: &mut [u8], word: &[u8]) -> Result<Reading, Refusal> {
     yes(is_alphabet(q), 1)?;
@@ -146,7 +146,7 @@ fn read_q<const Q: usize>(m: u32, message: &mut [u8], word: &[u8]) -> Result<Rea
     }
 }
 
-/// Reader (c): as (b), with a body for each code.
+/// Reader (b): as (c), with a body for each code.
 #[inline(always)]
 pub fn read_each(q: u32, m: u32, message: &mut [u8], word: &[u8]) -> Result<Reading, Refusal> {
     match q {
@@ -157,7 +157,7 @@ pub fn read_each(q: u32, m: u32, message: &mut [u8], word: &[u8]) -> Result<Read
     }
 }
 
-/// Writer (b): writes the word of a message, or gives the number of the first question answered no: 1, 2, 5, 6, 7.
+/// Writer (c): writes the word of a message, or gives the number of the first question answered no: 1, 2, 5, 6, 7.
 #[inline(always)]
 pub fn write(q: u32, m: u32, message: &[u8], word: &mut [u8]) -> Result<(), Refusal> {
     yes(is_alphabet(q), 1)?;
@@ -189,7 +189,7 @@ fn write_sized<const N: usize, const S: usize>(q: u32, message: &[u8], word: &mu
     Ok(())
 }
 
-/// Writer (c): as (b), with a body for each length.
+/// Writer (b): as (c), with a body for each length.
 #[inline(always)]
 pub fn write_each(q: u32, m: u32, message: &[u8], word: &mut [u8]) -> Result<(), Refusal> {
     yes(is_alphabet(q), 1)?;

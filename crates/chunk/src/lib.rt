@@ -1,9 +1,11 @@
-// Symbols in the bytes of one number, read from a slice and written to it. Each is written out byte by byte, with no loop, so that the
-// compiler makes one load or one store of it.
+// Symbols in the bytes of one number: read from a slice, written to it, and a mask for their remainders. Each read and write is written out
+// byte by byte, with no loop, so that the compiler makes one load or one store of it.
 ghost use mathlib.Core.Path.{_≡_};
-ghost use Prim.Native.Nat.{ℕ, _+_, _<_, _≤_};
+ghost use mathlib.Core.Bool.{true};
+ghost use Prim.Native.Nat.{ℕ, _+_, _-_, _<_, _≤_};
 ghost use lib.ListN.{length};
 ghost use Rattle.theory.specs.Sum.{at};
+ghost use Rattle.theory.specs.Question.{isAlphabet};
 ghost use Rattle.digits.specs.Digit.{digit};
 ghost use Rattle.chunk.specs.Chunk.{Holds, from, Put};
 
@@ -82,4 +84,12 @@ pub fn put_eight(x: u64, i: usize, s: &mut [u8])
 {
     put_four(x, i, s);
     put_four(x >> 32, i + 4, s);
+}
+
+// The mask that takes the remainder by q, in each byte.
+pub fn mask(q: u32) -> u64
+    requires { ⌜ isAlphabet q ≡ true ⌝ }
+    ensures { λ r. ⌜ Holds 8 r (λ l. q - 1) ⌝ }
+{
+    (q - 1) as u64 * 0x0101010101010101
 }

@@ -1,7 +1,6 @@
 -- What encode and decode answer and leave, for every input (document 01: Write and Read).
 use Prim.Native.Nat.{ℕ}
 use mathlib.Core.List.{List, [], _∷_}
-use Rattle.theory.specs.Code.{codeword}
 use Rattle.theory.specs.Nearest.{isReadable, nearMessage, nearDistance, nearMargin}
 use Rattle.theory.specs.Question.{ask, isAlphabet, isOrder, isMessageSize, isWordSize, allBelow, Answer, accepted, refused, answer, after}
 use Rattle.codec.specs.declared.Reading.{Reading}
@@ -9,28 +8,16 @@ use Rattle.codec.specs.declared.Encoded.{Encoded}
 use Rattle.codec.specs.declared.Encoded.the-variants as E
 use Rattle.codec.specs.declared.Decoded.{Decoded}
 use Rattle.codec.specs.declared.Decoded.the-variants as D
+-- the questions of Write, and the word slice after it
+unfoldable pub use Rattle.encoder.specs.Encoder.{encodeRefusal, encodeWord}
 
--- both calls ask 1, 2, 5 first
+-- Read asks 1, 2, 5 first
 unfoldable pub sizeRefusal : ℕ → ℕ → List ℕ → ℕ
 sizeRefusal q m message = ask (isAlphabet q) 1 (ask (isOrder m) 2 (ask (isMessageSize m message) 5 0))
-
--- Write asks 1, 2, 5, 6, 7
-unfoldable pub encodeRefusal : ℕ → ℕ → List ℕ → List ℕ → ℕ
-encodeRefusal q m message word =
-    ask (isAlphabet q) 1
-    (ask (isOrder m) 2
-    (ask (isMessageSize m message) 5
-    (ask (allBelow q message) 6
-    (ask (isWordSize m word) 7
-    0))))
 
 -- Write answers no values
 unfoldable pub encodeAnswer : ℕ → ℕ → List ℕ → List ℕ → Answer
 encodeAnswer q m message word = answer (encodeRefusal q m message word) []
-
--- the word slice after Write
-unfoldable pub encodeWord : ℕ → ℕ → List ℕ → List ℕ → List ℕ
-encodeWord q m message word = after (encodeRefusal q m message word) (codeword q m message) word
 
 -- Read asks 1, 2, 5, 7, 8 before it reads the word
 unfoldable pub wordRefusal : ℕ → ℕ → List ℕ → List ℕ → ℕ

@@ -3,11 +3,10 @@
 // index, and the compiler works out sixteen at once. Every length is written out, so that there is a body for each.
 ghost use mathlib.Core.Path.{_≡_};
 ghost use mathlib.Core.Bool.{true};
-ghost use Prim.Native.Nat.{ℕ, suc, _+_, _*_, _-_, _%_, _<_, _≤_};
+ghost use Prim.Native.Nat.{ℕ, _+_, _*_, _%_, _<_, _≤_};
 ghost use lib.ListN.{length};
 ghost use Rattle.theory.specs.Sum.{at};
 ghost use Rattle.theory.specs.Index.{bit};
-ghost use Rattle.theory.specs.Code.{symbolAt};
 ghost use Rattle.theory.specs.Question.{isAlphabet};
 ghost use Rattle.digits.specs.Digit.{digit};
 ghost use Rattle.chunk.specs.Chunk.{Holds};
@@ -27,20 +26,12 @@ fn spread(a: u8) -> u64
     wide(a) * 0x0101010101010101
 }
 
-// The mask that takes the remainder by q, in each byte.
-fn mask(q: u32) -> u64
-    requires { ⌜ isAlphabet q ≡ true ⌝ }
-    ensures { λ r. ⌜ Holds 8 r (λ l. q - 1) ⌝ }
-{
-    (q - 1) as u64 * 0x0101010101010101
-}
-
 // Each byte modulo q.
 fn reduced(q: u32, x: u64) -> u64
     requires { ⌜ isAlphabet q ≡ true ⌝ }
     ensures { λ r. ⌜ ((l : ℕ) → l < 8 → digit 8 r l ≡ digit 8 x l % q) ⌝ }
 {
-    x & mask(q)
+    x & chunk::mask(q)
 }
 
 // Each byte plus a modulo q.
@@ -68,6 +59,14 @@ fn first_eight(s: &[u8]) -> u64
     four + ((four + wide(s[3]) * 0x01010101) << 32)
 }
 
+// A symbol modulo q.
+fn remainder(q: u32, x: u8) -> u8
+    requires { ⌜ isAlphabet q ≡ true ⌝ }
+    ensures { λ r. ⌜ r ≡ x % q ⌝ }
+{
+    x & (q - 1) as u8
+}
+
 // Fills the places from 8 n to 16 n with those below 8 n plus a.
 fn double(q: u32, n: usize, a: u8, word: &mut [u8])
     requires { ⌜ (isAlphabet q ≡ true) × (a < q) × (16 * n ≤ length (now word)) × (n ≤ 16) × ((j : ℕ) → j < 8 * n → at (now word) j < q) ⌝ }
@@ -77,14 +76,6 @@ fn double(q: u32, n: usize, a: u8, word: &mut [u8])
         let x = plus(q, a, chunk::eight(word, 8 * c));
         chunk::put_eight(x, 8 * (c + n), word);
     }
-}
-
-// A symbol modulo q.
-fn remainder(q: u32, x: u8) -> u8
-    requires { ⌜ isAlphabet q ≡ true ⌝ }
-    ensures { λ r. ⌜ r ≡ x % q ⌝ }
-{
-    x & (q - 1) as u8
 }
 
 // The same, one place at a time.

@@ -5,7 +5,7 @@ use mathlib.Core.Logic.{_⊎_, inl, inr}
 use native.Mathlib.Nat.{not-suc-le-zero, le-of-suc-le-suc, eq-or-lt-of-le, add-comm, mul-comm, mul-assoc, add-mul, one-mul, mul-le-mul-right, mod-lt, mod-add-div, add-mul-div-right, add-mul-mod-self-right, div-eq-of-lt, mod-eq-of-lt, le-trans, le-of-eq, lt-of-lt-of-le, mul-suc, mul-zero, mul-one, two-mul, mul-add, sub-add-cancel, eq-sub-of-add-eq}
 use native.Mathlib.Omega.{arith}
 use lib.Pow.{pow-add, pow-pos, split, high, low, shr-mod, shr-shr, shl-shr, mod-mod-pow, field}
-use lib.Bits.{bitAnd, and-shr, and-mod}
+use lib.Bits.{bitAnd, bitXor, and-shr, and-mod, xor-shr, xor-mod}
 use Rattle.theory.specs.Sum.{sum}
 use Rattle.theory.proofs.SumLaws.{sum-ext, sum-add}
 use Rattle.digits.specs.Digit.{digit, number}
@@ -71,6 +71,11 @@ number-of b (suc n) x h =
     top : digit b x n ≡ x / 2 ^ (b * n)
     top = shr-mod b (b * n) (subst (λ y. x < 2 ^ y) (mul-suc b n ∙ add-comm (b * n) b) h)
 
+-- numbers of n digits are equal where their digits are
+pub same-digits : (b n x y : ℕ) → x < 2 ^ (b * n) → y < 2 ^ (b * n) → ((l : ℕ) → l < n → digit b x l ≡ digit b y l) → x ≡ y
+unfolding number
+same-digits b n x y h k e = sym (number-of b n x h) ∙ sum-ext n _ _ (λ l i. ap (λ z. z * 2 ^ (b * l)) (e l i)) ∙ number-of b n y k
+
 -- SUMS: where no two digits make more than a digit
 module _ (b n x y : ℕ) (h : x < 2 ^ (b * n)) (k : y < 2 ^ (b * n)) (fits : (l : ℕ) → l < n → digit b x l + digit b y l < 2 ^ b) where
   sum-number : x + y ≡ number b n (λ l. digit b x l + digit b y l)
@@ -126,6 +131,10 @@ module _ (b n a x : ℕ) (h : x < 2 ^ (b * n)) (fits : (l : ℕ) → l < n → a
 pub digit-and : (b x y l : ℕ) → digit b (bitAnd x y) l ≡ bitAnd (digit b x l) (digit b y l)
 unfolding digit
 digit-and b x y l = ap (λ z. z % 2 ^ b) (and-shr x y (b * l)) ∙ and-mod (x / 2 ^ (b * l)) (y / 2 ^ (b * l)) b
+
+pub digit-xor : (b x y l : ℕ) → digit b (bitXor x y) l ≡ bitXor (digit b x l) (digit b y l)
+unfolding digit
+digit-xor b x y l = ap (λ z. z % 2 ^ b) (xor-shr x y (b * l)) ∙ xor-mod (x / 2 ^ (b * l)) (y / 2 ^ (b * l)) b
 
 pub digit-down : (b x s l : ℕ) → digit b (x / 2 ^ (b * s)) l ≡ digit b x (s + l)
 unfolding digit

@@ -4,9 +4,11 @@ use mathlib.Core.Path.{_≡_, refl, ap, ap₂, sym, _∙_}
 use mathlib.Core.Logic.{_⊎_, inl, inr}
 use mathlib.Core.Bool.{true}
 use native.Mathlib.Omega.{arith}
-use native.Mathlib.Nat.{not-suc-le-zero, le-of-suc-le-suc, mod-eq-of-lt}
+use native.Mathlib.Decide.{decLt}
+use native.Mathlib.Nat.{not-suc-le-zero, le-of-suc-le-suc, mod-eq-of-lt, div-eq-of-lt, lt-of-lt-of-le}
 use borrow.Author.Tests.{eqb-true}
 use lib.Dec.{eqb}
+use lib.Pow.{pow-mono}
 use lib.Bits.{bitAnd, and-mask, and-zero-r, and-le-l}
 use Rattle.theory.specs.Sum.{every}
 use Rattle.theory.specs.Index.{bit}
@@ -14,17 +16,17 @@ use Rattle.theory.specs.Modular.{subMod}
 use Rattle.theory.specs.Question.{isAlphabet}
 use Rattle.theory.proofs.IndexLaws.{bit-lt}
 use Rattle.theory.proofs.ModularLaws.{subMod-code, subMod-lt}
-use Rattle.theory.proofs.QuestionLaws.{Alphabet, alphabet, alphabet-bounds, mask-mod}
+use Rattle.theory.proofs.QuestionLaws.{Alphabet, alphabet, alphabet-bounds, alphabet-positive, mask-mod}
 use Rattle.theory.proofs.EveryLaws.{every-at}
 use Rattle.digits.specs.Digit.{digit}
-use Rattle.digits.proofs.DigitLaws.{digit-lt, digit-and, digit-add, add-lt, digit-sub, sub-le, digit-times}
-use Rattle.lanes.specs.Lane.{Lanes, Below, ClearLanes, Blend}
+use Rattle.digits.proofs.DigitLaws.{digit-lt, digit-and, digit-add, add-lt, digit-sub, sub-le, digit-times, digit-down}
+use Rattle.lanes.specs.Lane.{Lanes, Below, Ahead, ClearLanes, Blend}
 
 -- the lanes of a number that is written out, by one computed test
 pub lanes-are : (x : ℕ) (f : ℕ → ℕ) → every 16 (λ t. eqb (digit 4 x t) (f t)) ≡ true → Lanes x f
 lanes-are x f e t h = eqb-true _ _ (every-at 16 (λ t. eqb (digit 4 x t) (f t)) e t h)
 
-full-lanes : Lanes 0xffff_ffff_ffff_ffff (λ t. 15)
+pub full-lanes : Lanes 0xffff_ffff_ffff_ffff (λ t. 15)
 unfolding every digit
 full-lanes = lanes-are 0xffff_ffff_ffff_ffff (λ t. 15) refl
 
@@ -32,7 +34,7 @@ eight-lanes : Lanes 0x8888_8888_8888_8888 (λ t. 8)
 unfolding every digit
 eight-lanes = lanes-are 0x8888_8888_8888_8888 (λ t. 8) refl
 
-one-lanes : Lanes 0x1111_1111_1111_1111 (λ t. 1)
+pub one-lanes : Lanes 0x1111_1111_1111_1111 (λ t. 1)
 unfolding every digit
 one-lanes = lanes-are 0x1111_1111_1111_1111 (λ t. 1) refl
 
@@ -110,6 +112,16 @@ eight-more q a b h l = each h ∙ sym (subMod-code q a b l)
     each (inr (inl e)) = let k : b < 4 = omega arith in rw e (omega arith)
     each (inr (inr e)) = rw e
 
+-- a number that fits a lane, in every lane
+pub spread-lanes : (a : ℕ) → a < 16 → Lanes (a * 0x1111_1111_1111_1111) (λ t. a)
+spread-lanes a l t h =
+    digit-times 4 16 a 0x1111_1111_1111_1111 (omega arith) (λ i j. omega (arith, l, ap (λ z. a * z) (one-lanes i j))) t h
+    ∙ ap (λ z. a * z) (one-lanes t h) ∙ omega arith
+
+-- the mask that takes the remainder by q, in every lane
+pub mask-lane : (q : ℕ) → isAlphabet q ≡ true → Lanes ((q - 1) * 0x1111_1111_1111_1111) (λ t. q - 1)
+mask-lane q a = spread-lanes (q - 1) (omega (arith, alphabet-bounds q (alphabet q a)))
+
 module _ (q y x : ℕ) (a : isAlphabet q ≡ true) (hy : y < 18446744073709551616) (hx : x < 18446744073709551616) (by : Below q y) (bx : Below q x) where
   pub few : (2 ≤ q) × (q ≤ 8)
   few = alphabet-bounds q (alphabet q a)
@@ -132,20 +144,31 @@ module _ (q y x : ℕ) (a : isAlphabet q ≡ true) (hy : y < 1844674407370955161
   less-lane : (t : ℕ) → t < 16 → digit 4 (y + 0x8888_8888_8888_8888 - x) t ≡ digit 4 y t + 8 - digit 4 x t
   less-lane t h = digit-sub 4 16 (y + 0x8888_8888_8888_8888) x lift-lt hx under t h ∙ ap (λ z. z - digit 4 x t) (lift-lane t h)
 
-  mask-lane : (t : ℕ) → t < 16 → digit 4 ((q - 1) * 0x1111_1111_1111_1111) t ≡ q - 1
-  mask-lane t h =
-      digit-times 4 16 (q - 1) 0x1111_1111_1111_1111 (omega arith) (λ i j. omega (arith, few, ap (λ z. (q - 1) * z) (one-lanes i j))) t h
-      ∙ ap (λ z. (q - 1) * z) (one-lanes t h) ∙ omega arith
-
   pub mask-lt : (q - 1) * 0x1111_1111_1111_1111 < 18446744073709551616
   mask-lt = omega (arith, few)
 
   pub less-is : Lanes (bitAnd (y + 0x8888_8888_8888_8888 - x) ((q - 1) * 0x1111_1111_1111_1111)) (λ t. subMod q (digit 4 y t) (digit 4 x t))
   less-is t h =
       digit-and 4 (y + 0x8888_8888_8888_8888 - x) ((q - 1) * 0x1111_1111_1111_1111) t
-      ∙ ap₂ bitAnd (less-lane t h) (mask-lane t h)
+      ∙ ap₂ bitAnd (less-lane t h) (mask-lane q a t h)
       ∙ mask-mod q _ (alphabet q a)
       ∙ eight-more q (digit 4 y t) (digit 4 x t) (alphabet q a) (bx t h)
 
 pub less-below : (q y x r : ℕ) → isAlphabet q ≡ true → Lanes r (λ t. subMod q (digit 4 y t) (digit 4 x t)) → Below q r
 less-below q y x r a d t h = omega (arith, d t h, subMod-lt q (digit 4 y t) (digit 4 x t) (omega (arith, alphabet-bounds q (alphabet q a))))
+
+-- no lane stands past the sixteenth
+past : (x l : ℕ) → x < 2 ^ 64 → 16 ≤ l → digit 4 x l ≡ 0
+unfolding digit
+past x l h k = ap (λ z. z % 16) (div-eq-of-lt (lt-of-lt-of-le h (pow-mono {i = 64} {j = 4 * l} (omega (arith, k)))))
+
+-- the lanes further on
+pub down-below : (q s x : ℕ) → isAlphabet q ≡ true → x < 18446744073709551616 → Below q x → Below q (x / 2 ^ (4 * s))
+down-below q s x al hx b t h = go (decLt (s + t) 16)
+  where
+    go : Dec (s + t < 16) → digit 4 (x / 2 ^ (4 * s)) t < q
+    go (yes l) = omega (arith, digit-down 4 x s t, b (s + t) l)
+    go (no l) = omega (arith, digit-down 4 x s t, past x (s + t) hx (omega arith), alphabet-positive q al)
+
+pub ahead-is : (q s x d : ℕ) → Lanes d (λ t. subMod q (digit 4 (x / 2 ^ (4 * s)) t) (digit 4 x t)) → Ahead q s x d
+ahead-is q s x d e t h = e t h ∙ ap (λ z. subMod q z (digit 4 x t)) (digit-down 4 x s t)

@@ -8,7 +8,7 @@ ghost use Rattle.theory.specs.Sum.{at};
 ghost use Rattle.theory.specs.Modular.{subMod};
 ghost use Rattle.theory.specs.Question.{isAlphabet};
 ghost use Rattle.digits.specs.Digit.{digit};
-ghost use Rattle.lanes.specs.Lane.{Lanes, Below, Within, Low, Held, Loaded, ClearLanes, Blend};
+ghost use Rattle.lanes.specs.Lane.{Lanes, Below, Within, Low, Held, Loaded, Ahead, ClearLanes, Blend};
 ghost use Rattle.lanes.specs.Ballot.{laneBit, NearVotes, Reach, BallotOf};
 
 // The lanes whose bit l is 0, filled with ones.
@@ -34,11 +34,19 @@ fn blend(l: u32, u: u64, v: u64) -> u64
 }
 
 // The lanes of y minus those of x modulo q: eight more than the difference is never below 0, and q divides eight.
-fn less(q: u64, y: u64, x: u64) -> u64
+pub fn less(q: u64, y: u64, x: u64) -> u64
     requires { ⌜ (isAlphabet q ≡ true) × Below q y × Below q x ⌝ }
     ensures { λ r. ⌜ Lanes r (λ t. subMod q (digit 4 y t) (digit 4 x t)) ⌝ }
 {
     (y + 0x8888_8888_8888_8888 - x) & ((q - 1) * 0x1111_1111_1111_1111)
+}
+
+// What each lane is behind the one s lanes further on by: the votes for the coefficient whose partners stand s lanes apart.
+pub fn ahead(q: u64, s: u32, x: u64) -> u64
+    requires { ⌜ (isAlphabet q ≡ true) × (s < 16) × Below q x ⌝ }
+    ensures { λ r. ⌜ Ahead q s x r ⌝ }
+{
+    less(q, x >> (4 * s), x)
 }
 
 // The bit of a lane's number that is bit k of its place, k below 4.
@@ -109,7 +117,7 @@ pub fn ballot(q: u64, k: u32, j: usize, x: &[u64; 16]) -> u64
 }
 
 // What the lanes of number j of x are ahead of those of y by.
-pub fn ahead(q: u64, j: usize, x: &[u64; 16], y: &[u64; 16]) -> u64
+pub fn gap(q: u64, j: usize, x: &[u64; 16], y: &[u64; 16]) -> u64
     requires { ⌜ (isAlphabet q ≡ true) × (j < 16) × Within q (now x) × Within q (now y) ⌝ }
     ensures { λ r. ⌜ Lanes r (λ t. subMod q (digit 4 (at (now (x .entry)) j) t) (digit 4 (at (now (y .entry)) j) t)) ⌝ }
 {
@@ -117,7 +125,7 @@ pub fn ahead(q: u64, j: usize, x: &[u64; 16], y: &[u64; 16]) -> u64
 }
 
 // The sixteen symbols from place 16 j on: the second eight in the odd lanes.
-fn sixteen(word: &[u8], j: usize) -> u64
+pub fn sixteen(word: &[u8], j: usize) -> u64
     requires { ⌜ (16 * j + 16 ≤ length (now word)) × (length (now word) ≤ 256) × Low (now word) ⌝ }
     ensures { λ r. ⌜ Held (now (word .entry)) (16 * j) r ⌝ }
 {

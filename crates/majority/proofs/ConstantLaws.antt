@@ -18,7 +18,7 @@ use Rattle.theory.proofs.ModularLaws.{subMod-mod}
 use Rattle.theory.proofs.CodeLaws.{symbolAt-lt}
 use Rattle.codeword.specs.Coded.{Coded}
 use Rattle.tally.specs.Digits.{digit, Counts, gap}
-use Rattle.tally.specs.Received.{Received, Gaps}
+use Rattle.tally.specs.Received.{Received}
 use Rattle.tally.proofs.CountLaws.{bounds}
 use Rattle.race.specs.Race.{Leads, together}
 use Rattle.race.proofs.RaceLaws.{leads-ext}
@@ -26,10 +26,7 @@ use Rattle.lanes.specs.Lane.{Packed}
 use Rattle.poll.specs.Polled.{AheadOf}
 use Rattle.majority.specs.Elected.{LongCode, LongConstant}
 
--- the room that a code takes in the two buffers
-pub short-room : (m n : ℕ) → m ≤ 5 → n ≡ 32 → 2 ^ m ≤ n
-short-room m n h e = omega (arith, e, pow-mono {i = m} {j = 5} h)
-
+-- the room that a code takes
 pub long-room : (m n : ℕ) → m ≤ 8 → n ≡ 256 → 2 ^ m ≤ n
 long-room m n h e = omega (arith, e, pow-mono {i = m} {j = 8} h)
 
@@ -39,17 +36,6 @@ module _ (q m : ℕ) (w s c : List ℕ) (r : Received q m w) (zeroth : at s 0 �
 
   code-below : (i : ℕ) → i < 2 ^ m → at c i < q
   code-below i l = rw (code .each i l) (symbolAt-lt q m (at s) i some)
-
-  -- a short word and its code can be compared
-  pub short-gaps : m ≤ 5 → Gaps q (2 ^ m) w c
-  short-gaps h = record {
-    alphabet = r .alphabet;
-    short = omega (arith, pow-mono {i = m} {j = 7} (omega arith));
-    inside = omega (arith, r .symbols .size);
-    even = room;
-    below = r .symbols .below;
-    under = code-below;
-  }
 
   -- the code of a long word can be packed
   pub long-code : 5 ≤ m → length c ≡ 256 → LongCode q m c

@@ -1,3 +1,4 @@
 pub mod StandingLaws
 pub mod ConstantLaws
 pub mod LongLaws
+pub mod ReadLaws

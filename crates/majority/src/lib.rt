@@ -1,23 +1,19 @@
-// Majority-logic decoding of a word's votes (source document 001, section 3.1): the winners of all votes, and by how much they win.
-// Short words are counted one vote after the other, long ones sixteen at a time.
+// Majority-logic decoding (source document 001, section 3.1). Words of up to 32 places are read by short. Of the longer ones all votes are
+// counted, sixteen at a time: the winners, and by how much they win.
 ghost use mathlib.Core.Path.{_≡_};
 ghost use mathlib.Core.Bool.{true};
 ghost use Prim.Native.Nat.{ℕ, _+_, _-_, _/_, _^_, _<_, _≤_, min};
-ghost use lib.ListN.{length, set};
+ghost use lib.ListN.{length, set, take};
 ghost use Rattle.theory.specs.Sum.{at};
 ghost use Rattle.theory.specs.Question.{isAlphabet};
 ghost use Rattle.tally.specs.Digits.{Units};
 ghost use Rattle.tally.specs.Received.{Received, Tallied};
 ghost use Rattle.lanes.specs.Lane.{Within, Packed};
 ghost use Rattle.poll.specs.Pairs.{Pairs};
+ghost use Rattle.short.specs.Settled.{Settled};
 ghost use Rattle.majority.specs.Elected.{StandingOf, Empty, LongCode, LongConstant, Elected};
 use race::Race;
-
-// The distance of a word from the winners of its votes, and their least lead.
-pub struct Outcome {
-    pub wrong: u32,
-    pub margin: u32,
-}
+use short::Outcome;
 
 // Puts the winners of the coefficients into the message and returns their least lead.
 fn coefficients(q: u32, m: u32, t: &[u64; 8], message: &mut [u8; 9]) -> u32
@@ -45,21 +41,6 @@ fn seat(n: u32, least: u32, r: Race, message: &mut [u8; 9]) -> Outcome
     }
 }
 
-// The winners of a short word.
-fn elect_short(q: u32, m: u32, units: &[u64; 8], word: &[u8], message: &mut [u8; 9]) -> Outcome
-    requires { ⌜ Received q m (now word) × Units (now units) × (m ≤ 5) × (length (now message) ≡ 9) ⌝ }
-    ensures { λ r. ⌜ Elected q m (now (word .entry)) (now (message .exit)) (r .wrong) (r .margin) ⌝ }
-{
-    let mut t = [0u64; 8];
-    short::tallies(q as usize, m, units, word, &mut t);
-    message[0] = 0;
-    let least = coefficients(q, m, &t, message);
-    let mut code = [0u8; 32];
-    codeword::write(q, m, message, &mut code);
-    let r = race::winner(q, short::residues(q as usize, m, units, word, &code), 0);
-    seat(word.len() as u32, least, r, message)
-}
-
 // Packs a long word and counts the votes for its coefficients.
 fn long_tallies(
     q: u32,
@@ -69,7 +50,7 @@ fn long_tallies(
     x: &mut [u64; 16],
     t: &mut [u64; 8],
 )
-    requires { ⌜ Received q m (now word) × (5 ≤ m) × Pairs (now table) × Empty (now x) × (length (now t) ≡ 8) ⌝ }
+    requires { ⌜ Received q m (now word) × (5 ≤ m) × Pairs q (now table) × Empty (now x) × (length (now t) ≡ 8) ⌝ }
     ensures { λ r. ⌜ Within q (now (x .exit)) × Packed (2 ^ (m - 4)) (now (word .entry)) (now (x .exit)) × Tallied q m (now (word .entry)) (now (t .exit)) m ⌝ }
 {
     lanes::load(word, x);
@@ -85,7 +66,7 @@ fn long_constant(
     x: &[u64; 16],
     y: &mut [u64; 16],
 ) -> Race
-    requires { ⌜ LongCode q m (now code) × Pairs (now table) × Within q (now x) × Empty (now y) ⌝ }
+    requires { ⌜ LongCode q m (now code) × Pairs q (now table) × Within q (now x) × Empty (now y) ⌝ }
     ensures { λ r. ⌜ LongConstant q m (now (code .entry)) (now (x .entry)) (r .symbol) (r .votes) (r .next) ⌝ }
 {
     lanes::load(&code[0..questions::pow2(m)], y);
@@ -101,7 +82,7 @@ fn elect_long(q: u32, m: u32, units: &[u64; 8], word: &[u8], message: &mut [u8; 
     ensures { λ r. ⌜ Elected q m (now (word .entry)) (now (message .exit)) (r .wrong) (r .margin) ⌝ }
 {
     let mut table = [0u64; 128];
-    poll::pairs(units, &mut table);
+    poll::pairs(q as usize, units, &mut table);
     let mut x = [0u64; 16];
     let mut t = [0u64; 8];
     long_tallies(q, m, word, &table, &mut x, &mut t);
@@ -114,9 +95,9 @@ fn elect_long(q: u32, m: u32, units: &[u64; 8], word: &[u8], message: &mut [u8; 
     seat(word.len() as u32, least, r, message)
 }
 
-// Puts the winners of all votes into the message: the only message that can be near the word.
-pub fn winners(q: u32, m: u32, word: &[u8], message: &mut [u8; 9]) -> Outcome
-    requires { ⌜ Received q m (now word) × (length (now message) ≡ 9) ⌝ }
+// Puts the winners of all votes of a long word into the message: the only message that can be near it.
+fn winners(q: u32, m: u32, word: &[u8], message: &mut [u8; 9]) -> Outcome
+    requires { ⌜ Received q m (now word) × (5 ≤ m) × (length (now message) ≡ 9) ⌝ }
     ensures { λ r. ⌜ Elected q m (now (word .entry)) (now (message .exit)) (r .wrong) (r .margin) ⌝ }
 {
     let units: [u64; 8] = [
@@ -129,8 +110,43 @@ pub fn winners(q: u32, m: u32, word: &[u8], message: &mut [u8; 9]) -> Outcome
         281474976710656,
         72057594037927936,
     ];
-    if m <= 5 {
-        return elect_short(q, m, &units, word, message);
-    }
     elect_long(q, m, &units, word, message)
+}
+
+// Fills the message from the front of the symbols found.
+fn copy(found: &[u8; 9], message: &mut [u8])
+    requires { ⌜ (length (now found) ≡ 9) × (length (now message) ≤ 9) ⌝ }
+    ensures { λ r. ⌜ now (message .exit) ≡ take (length (now (message .entry))) (now (found .entry)) ⌝ }
+{
+    for i in 0..message.len() {
+        message[i] = found[i];
+    }
+}
+
+// Reads a long word: fills the message with the winners, where they are near.
+fn read_long(q: u32, m: u32, message: &mut [u8], word: &[u8]) -> Outcome
+    requires { ⌜ Received q m (now word) × (5 ≤ m) × (length (now message) ≡ m + 1) ⌝ }
+    ensures { λ r. ⌜ Settled q m (now (word .entry)) (now (message .entry)) (now (message .exit)) (r .wrong) (r .margin) ⌝ }
+{
+    let mut found = [0u8; 9];
+    let r = winners(q, m, word, &mut found);
+    if 4 * r.wrong >= word.len() as u32 {
+        return r;
+    }
+    copy(&found, message);
+    r
+}
+
+// Reads a word: fills the message with the near message, if there is one.
+pub fn read(q: u32, m: u32, message: &mut [u8], word: &[u8]) -> Outcome
+    requires { ⌜ Received q m (now word) × (length (now message) ≡ m + 1) ⌝ }
+    ensures { λ r. ⌜ Settled q m (now (word .entry)) (now (message .entry)) (now (message .exit)) (r .wrong) (r .margin) ⌝ }
+{
+    match m {
+        2 => short::read_4(q, message, word),
+        3 => short::read_8(q, message, word),
+        4 => short::read_16(q, message, word),
+        5 => short::read_32(q, message, word),
+        _ => read_long(q, m, message, word),
+    }
 }

@@ -9,7 +9,7 @@ use native.Mathlib.Nat.{not-suc-le-zero, le-of-suc-le-suc, eq-or-lt-of-le}
 use lib.ListN.{length, set, length-set}
 use lib.Seq.{getD-set-same, getD-set-other}
 use Rattle.theory.specs.Sum.{at}
-use Rattle.poll.specs.Pairs.{Rows, Pairs, Row}
+use Rattle.poll.specs.Pairs.{Pairs, Row}
 
 pub row-none : (b : ℕ) (u : List ℕ) → length u ≡ 128 → Row b u u 0
 row-none b u e = record { size = e; each = λ a l. absurd (not-suc-le-zero l); below = λ i l. refl }
@@ -30,15 +30,15 @@ row-next b n u v p q r l k e f = record {
 pub row-all : (b n : ℕ) (u v : List ℕ) → n ≡ 8 → Row b u v n → Row b u v 8
 row-all b n u v e r = rw e at r
 
-pub rows-none : (u : List ℕ) → length u ≡ 128 → Rows 0 u
+pub rows-none : (u : List ℕ) → length u ≡ 128 → Pairs 0 u
 rows-none u e = record { size = e; each = λ a b l k. absurd (not-suc-le-zero k) }
 
-pub rows-next : (b : ℕ) (u v : List ℕ) → b < 8 → Rows b u → Row b u v 8 → Rows (b + 1) v
+pub rows-next : (b : ℕ) (u v : List ℕ) → b < 8 → Pairs b u → Row b u v 8 → Pairs (b + 1) v
 rows-next b u v l h r = record { size = r .size; each = λ a c i k. go a c i (eq-or-lt-of-le (le-of-suc-le-suc (subst (λ z. c < z) (add-one b) k))) }
   where
     go : (a c : ℕ) → a < 8 → (c ≡ b) ⊎ (c < b) → at v (a + 16 * c) ≡ 256 ^ a + 256 ^ c
     go a c i (inl z) = ap (λ y. at v (a + 16 * y)) z ∙ r .each a i ∙ ap (λ y. 256 ^ a + 256 ^ y) (sym z)
     go a c i (inr z) = r .below (a + 16 * c) (omega arith) ∙ h .each a c i z
 
-pub rows-all : (n : ℕ) (u : List ℕ) → n ≡ 8 → Rows n u → Pairs u
-rows-all n u e r = rw e at r
+pub rows-all : (n q : ℕ) (u : List ℕ) → n ≡ q → Pairs n u → Pairs q u
+rows-all n q u e r = rw e at r

@@ -23,7 +23,7 @@ use Rattle.tally.proofs.DigitLaws.{units-digit}
 use Rattle.lanes.specs.Lane.{offset, Lanes, Below, Packed}
 use Rattle.lanes.specs.Ballot.{spot, Reach, BallotOf}
 use Rattle.lanes.proofs.SpotLaws.{block-sum, offset-sum, spot-sum}
-use Rattle.poll.specs.Pairs.{Pairs}
+use Rattle.poll.specs.Pairs.{Pairs, Listed}
 use Rattle.poll.specs.Polled.{Votes, VotesOf, AheadOf}
 
 -- the entry that code reads: two lanes are the byte's low and high half
@@ -35,16 +35,18 @@ byte d =
     let h : digits.digit 4 d 1 ≡ d % 256 / 16 = digit-odd 4 d 0 ∙ ap (λ z. z / 16) e in
     and-mask d 8 ∙ omega (arith, l, h)
 
-module _ (u : List ℕ) (d : ℕ) (p : Pairs u) (l : digits.digit 4 d 0 < 8) (h : digits.digit 4 d 1 < 8) where
-  pub byte-lt : bitAnd d 255 < 128
-  byte-lt = omega (arith, byte d)
+pub byte-lt : (d : ℕ) → digits.digit 4 d 0 < 8 → digits.digit 4 d 1 < 8 → bitAnd d 255 < 128
+byte-lt d l h = omega (arith, byte d)
 
-  pub byte-units : at u (bitAnd d 255) ≡ 256 ^ digits.digit 4 d 0 + 256 ^ digits.digit 4 d 1
-  byte-units = ap (at u) (byte d) ∙ p .each _ _ l h
+pub byte-entry : (u : List ℕ) (d : ℕ) → at u (bitAnd d 255) ≡ at u (digits.digit 4 d 0 + 16 * digits.digit 4 d 1)
+byte-entry u d = ap (at u) (byte d)
 
--- a lane below q has one of eight values
-pub eight-values : (q d : ℕ) → isAlphabet q ≡ true → Below q d → Below 8 d
-eight-values q d a b t l = omega (arith, b t l, alphabet-bounds q (alphabet q a))
+-- the rows below q are enough for lanes below q
+pub listed : (q : ℕ) (u : List ℕ) (d : ℕ) → isAlphabet q ≡ true → Pairs q u → Below q d → Listed u d
+listed q u d a p b = record { values = eight; each = λ s t l h. p .each _ _ (eight s l) (b t h) }
+  where
+    eight : Below 8 d
+    eight t l = omega (arith, b t l, alphabet-bounds q (alphabet q a))
 
 -- one byte more
 pub unit-le : (v : ℕ) → v < 8 → 256 ^ v ≤ 72057594037927936
@@ -72,12 +74,13 @@ pub units-none : (d : ℕ) → 0 ≡ laneUnits d (2 * 0)
 unfolding laneUnits sum
 units-none d = refl
 
-pub units-next : (d e i t u : ℕ) → e ≡ d / 2 ^ (4 * (2 * i)) → t ≡ laneUnits d (2 * i) → u ≡ 256 ^ digits.digit 4 e 0 + 256 ^ digits.digit 4 e 1 → t + u ≡ laneUnits d (2 * (i + 1))
+pub units-next : (u : List ℕ) (d e i t r : ℕ) → Listed u d → i < 8 → e ≡ d / 2 ^ (4 * (2 * i)) → t ≡ laneUnits d (2 * i)
+    → r ≡ at u (digits.digit 4 e 0 + 16 * digits.digit 4 e 1) → t + r ≡ laneUnits d (2 * (i + 1))
 unfolding laneUnits
-units-next d e i t u f g h =
+units-next u d e i t r p l f g h =
     let n : 2 * (i + 1) ≡ 2 * i + 1 + 1 = omega arith in
     let z : 2 * i + 0 ≡ 2 * i = omega arith in
-    ap₂ (λ x y. x + y) g (h ∙ ap₂ (λ x y. 256 ^ x + 256 ^ y) (lane-at d e i 0 f ∙ ap (digits.digit 4 d) z) (lane-at d e i 1 f))
+    ap₂ (λ x y. x + y) g (h ∙ ap₂ (λ x y. at u (x + 16 * y)) (lane-at d e i 0 f ∙ ap (digits.digit 4 d) z) (lane-at d e i 1 f) ∙ p .each (2 * i) (2 * i + 1) (omega arith) (omega arith))
     ∙ sym (ap (λ x. sum x (λ t. 256 ^ digits.digit 4 d t)) n ∙ sum-next (2 * i + 1) _ ∙ ap (λ x. x + 256 ^ digits.digit 4 d (2 * i + 1)) (sum-next (2 * i) _) ∙ add-assoc _ _ _)
 
 lane-units-le : (d n : ℕ) → Below 8 d → n ≤ 16 → laneUnits d n ≤ n * 72057594037927936
@@ -94,12 +97,12 @@ units-all d i t e f b =
     (g, omega (arith, g, lane-units-le d 16 b (omega arith)))
 
 -- A TALLY of sixteen votes a number
-pub polled : (q n : ℕ) (c : ℕ → ℕ → ℕ) (x : ℕ) → q ≤ 8 → n ≤ 8 → ((j t : ℕ) → c j t < q) → x ≡ sum n (λ j. sum 16 (λ t. 256 ^ c j t))
+pub polled : (q n : ℕ) (c : ℕ → ℕ → ℕ) (x : ℕ) → n ≤ 8 → ((j t : ℕ) → c j t < q) → x ≡ sum n (λ j. sum 16 (λ t. 256 ^ c j t))
     → (v : ℕ) → v < q → digit x v ≡ sum n (λ j. sum 16 (λ t. same (c j t) v))
 unfolding count ifClear
-polled q n c x few short below e v l =
+polled q n c x short below e v l =
     ap (λ z. digit z v) (e ∙ sum-ext n _ _ (λ j _. sum-ext 16 _ _ (λ t h. ap (λ z. 256 ^ z) (sym (flat j t h)))) ∙ sym (block-sum 16 n (λ i. 256 ^ c (i / 16) (i % 16))))
-    ∙ units-digit q (n * 16) (λ i. c (i / 16) (i % 16)) few (omega arith) (λ i h. below (i / 16) (i % 16)) v l
+    ∙ units-digit q (n * 16) (λ i. c (i / 16) (i % 16)) (omega arith) (λ i h. below (i / 16) (i % 16)) v l
     ∙ block-sum 16 n (λ i. same (c (i / 16) (i % 16)) v)
     ∙ sum-ext n _ _ (λ j _. sum-ext 16 _ _ (λ t h. ap (λ z. same z v) (flat j t h)))
   where
@@ -160,7 +163,7 @@ module _ (q m k : ℕ) (x : List ℕ) (v : Votes q m x) (h : k < m) where
   pub ballots-all : (j t : ℕ) → j ≡ 2 ^ (m - 5) → Balloted q m k x j t → VotesOf q m k x t
   unfolding ballotUnits votes count vote
   ballots-all j t e (b, f) w p c l =
-      polled q (2 ^ (m - 5)) (λ j t. vote q k (at w) (spot k j t)) t (alphabet-bounds q (alphabet q (v .alphabet)) .1) few-ballots
+      polled q (2 ^ (m - 5)) (λ j t. vote q k (at w) (spot k j t)) t few-ballots
       (λ j t. subMod-lt q _ _ (omega (arith, alphabet-bounds q (alphabet q (v .alphabet))))) (f w p ∙ ap (ballotUnits q k w) e) c l
       ∙ spot-sum k m h (v .low) (λ i. same (vote q k (at w) i) c)
 
@@ -195,7 +198,7 @@ gaps-next q f x y n t d u l (b, e) s g h = (
 pub gaps-all : (q f : ℕ) (x y : List ℕ) (n i t : ℕ) → i ≡ n → isAlphabet q ≡ true → n ≤ 8 → Gapped q f x y i t → AheadOf q f x y n t
 unfolding gapUnits count ifClear
 gaps-all q f x y n i t h a few (b, e) w c s p r k v l =
-    polled q n (λ j t. subMod q (at w (16 * (f + j) + offset t)) (at c (16 * (f + j) + offset t))) t (alphabet-bounds q (alphabet q a) .1) few
+    polled q n (λ j t. subMod q (at w (16 * (f + j) + offset t)) (at c (16 * (f + j) + offset t))) t few
     (λ j t. subMod-lt q _ _ (omega (arith, alphabet-bounds q (alphabet q a)))) (e w c s p r (omega arith) ∙ ap (gapUnits q f w c) h) v l
     ∙ sum-ext n _ _ (λ j _. offset-sum (λ i. same (subMod q (at w (16 * (f + j) + i)) (at c (16 * (f + j) + i))) v)
     ∙ sum-ext 16 _ _ (λ i _. ap (λ z. same (subMod q (at w z) (at c z)) v) (places j i)))

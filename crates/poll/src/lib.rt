@@ -8,8 +8,8 @@ ghost use Rattle.theory.specs.Sum.{sum, at};
 ghost use Rattle.theory.specs.Question.{isAlphabet};
 ghost use Rattle.digits.specs.Digit.{digit};
 ghost use Rattle.tally.specs.Digits.{Units};
-ghost use Rattle.lanes.specs.Lane.{Below, Within};
-ghost use Rattle.poll.specs.Pairs.{Pairs, Row};
+ghost use Rattle.lanes.specs.Lane.{Within};
+ghost use Rattle.poll.specs.Pairs.{Pairs, Row, Listed};
 ghost use Rattle.poll.specs.Polled.{Votes, VotesOf, TalliesOf, AheadOf};
 
 // The unit of v.
@@ -30,27 +30,27 @@ fn row(units: &[u64; 8], b: usize, table: &mut [u64; 128])
     }
 }
 
-// Fills the table of all pairs.
-pub fn pairs(units: &[u64; 8], table: &mut [u64; 128])
-    requires { ⌜ Units (now units) × (length (now table) ≡ 128) ⌝ }
-    ensures { λ r. ⌜ Pairs (now (table .exit)) ⌝ }
+// Fills the rows that an alphabet of q symbols reads: the others would only take time.
+pub fn pairs(q: usize, units: &[u64; 8], table: &mut [u64; 128])
+    requires { ⌜ Units (now units) × (q ≤ 8) × (length (now table) ≡ 128) ⌝ }
+    ensures { λ r. ⌜ Pairs q (now (table .exit)) ⌝ }
 {
-    for b in 0..8 {
+    for b in 0..q {
         row(units, b, table);
     }
 }
 
-// The two units of the lowest byte's lanes.
+// The entry of the lowest byte's lanes.
 fn pair(table: &[u64; 128], d: u64) -> u64
-    requires { ⌜ Pairs (now table) × (digit 4 d 0 < 8) × (digit 4 d 1 < 8) ⌝ }
-    ensures { λ r. ⌜ r ≡ 256 ^ digit 4 d 0 + 256 ^ digit 4 d 1 ⌝ }
+    requires { ⌜ (digit 4 d 0 < 8) × (digit 4 d 1 < 8) ⌝ }
+    ensures { λ r. ⌜ r ≡ at (now (table .entry)) (digit 4 d 0 + 16 * digit 4 d 1) ⌝ }
 {
     table[(d & 255) as usize]
 }
 
 // The sum of the units of the sixteen lanes.
 fn poll(table: &[u64; 128], d: u64) -> u64
-    requires { ⌜ Pairs (now table) × Below 8 d ⌝ }
+    requires { ⌜ Listed (now table) d ⌝ }
     ensures { λ r. ⌜ (r ≡ sum 16 (λ t. 256 ^ digit 4 d t)) × (r ≤ 16 * 256 ^ 7) ⌝ }
 {
     let mut t: u64 = 0;
@@ -64,7 +64,7 @@ fn poll(table: &[u64; 128], d: u64) -> u64
 
 // The tally of coefficient k.
 fn tally(q: u64, m: u32, k: u32, table: &[u64; 128], x: &[u64; 16]) -> u64
-    requires { ⌜ Votes q m (now x) × Pairs (now table) × (k < m) ⌝ }
+    requires { ⌜ Votes q m (now x) × Pairs q (now table) × (k < m) ⌝ }
     ensures { λ r. ⌜ VotesOf q m k (now (x .entry)) r ⌝ }
 {
     let mut t: u64 = 0;
@@ -74,13 +74,25 @@ fn tally(q: u64, m: u32, k: u32, table: &[u64; 128], x: &[u64; 16]) -> u64
     t
 }
 
-// The tallies of all coefficients.
+// Puts the tally of coefficient k behind those below.
+fn put(q: u64, m: u32, k: u32, table: &[u64; 128], x: &[u64; 16], t: &mut [u64; 8])
+    requires { ⌜ Votes q m (now x) × Pairs q (now table) × (k < m) × TalliesOf q m (now x) (now t) k ⌝ }
+    ensures { λ r. ⌜ TalliesOf q m (now (x .entry)) (now (t .exit)) (k + 1) ⌝ }
+{
+    t[k as usize] = tally(q, m, k, table, x);
+}
+
+// The tallies of all coefficients. The first four are written out to save time: the compiler makes straight code of each.
 pub fn tallies(q: u64, m: u32, table: &[u64; 128], x: &[u64; 16], t: &mut [u64; 8])
-    requires { ⌜ Votes q m (now x) × Pairs (now table) × (length (now t) ≡ 8) ⌝ }
+    requires { ⌜ Votes q m (now x) × Pairs q (now table) × (length (now t) ≡ 8) ⌝ }
     ensures { λ r. ⌜ TalliesOf q m (now (x .entry)) (now (t .exit)) m ⌝ }
 {
-    for k in 0..m {
-        t[k as usize] = tally(q, m, k, table, x);
+    put(q, m, 0, table, x, t);
+    put(q, m, 1, table, x, t);
+    put(q, m, 2, table, x, t);
+    put(q, m, 3, table, x, t);
+    for k in 4..m {
+        put(q, m, k, table, x, t);
     }
 }
 
@@ -93,12 +105,12 @@ pub fn gaps(
     x: &[u64; 16],
     y: &[u64; 16],
 ) -> u64
-    requires { ⌜ (isAlphabet q ≡ true) × Within q (now x) × Within q (now y) × Pairs (now table) × (from + count ≤ 16) × (count ≤ 8) ⌝ }
+    requires { ⌜ (isAlphabet q ≡ true) × Within q (now x) × Within q (now y) × Pairs q (now table) × (from + count ≤ 16) × (count ≤ 8) ⌝ }
     ensures { λ r. ⌜ AheadOf q from (now (x .entry)) (now (y .entry)) count r ⌝ }
 {
     let mut t: u64 = 0;
     for i in 0..count {
-        t += poll(table, lanes::ahead(q, from + i, x, y));
+        t += poll(table, lanes::gap(q, from + i, x, y));
     }
     t
 }

@@ -1,41 +1,48 @@
--- A message is below q where its parts are. Assumes nothing.
-use Prim.Native.Nat.{ℕ, _+_, _*_, _-_, _%_, _^_, _≤_, _<_}
+-- A list is below q where its parts are. Assumes nothing.
+use Prim.Native.Nat.{ℕ, _+_, _-_, _%_, _≤_, _<_}
 use mathlib.Core.Path.{_≡_, refl, ap, ap₂, sym, _∙_, subst}
 use mathlib.Core.Bool.{Bool, true, false, _&&_, and-comm}
 use mathlib.Core.List.{List}
 use native.Mathlib.Decide.{decLt}
 use native.Mathlib.Omega.{arith}
-use native.Mathlib.Nat.{mod-lt, mod-eq-of-lt, zero-add}
+use native.Mathlib.Nat.{mod-lt, mod-eq-of-lt, zero-add, add-assoc}
 use borrow.Author.Tests.{eq-eqb, eqb-true}
 use lib.Bits.{bitAnd, and-le-l}
 use lib.Dec.{eqb}
 use lib.ListN.{length}
 use Rattle.theory.specs.Sum.{at}
 use Rattle.theory.specs.Question.{isAlphabet, allBelow}
-use Rattle.theory.proofs.SumLaws.{sum-ext}
 use Rattle.theory.proofs.QuestionLaws.{alphabet, alphabet-positive, mask-mod, and-true, all-below, below-all}
-use Rattle.digits.specs.Digit.{digit, number}
-use Rattle.digits.proofs.DigitLaws.{digit-and, number-of}
+use Rattle.digits.specs.Digit.{digit}
+use Rattle.digits.proofs.DigitLaws.{digit-and, same-digits}
 use Rattle.chunk.specs.Chunk.{Holds, from}
 use Rattle.questions.specs.Part.{Tells}
 
--- numbers of n digits are equal where their digits are
-same-digits : (n x y : ℕ) → x < 2 ^ (8 * n) → y < 2 ^ (8 * n) → ((l : ℕ) → l < n → digit 8 x l ≡ digit 8 y l) → x ≡ y
-unfolding number
-same-digits n x y h k e = sym (number-of 8 n x h) ∙ sum-ext n _ _ (λ l b. ap (λ z. z * 2 ^ (8 * l)) (e l b)) ∙ number-of 8 n y k
+-- n symbols in one number, no more than a mask of eight bytes reaches
+module _ (q n x y i : ℕ) (s : List ℕ) (a : isAlphabet q ≡ true) (room : n ≤ 8) (h : Holds n x (from s i)) (k : Holds 8 y (λ l. q - 1)) where
+  remainder : (l : ℕ) → l < n → digit 8 (bitAnd x y) l ≡ at s (i + l) % q
+  remainder l b = digit-and 8 x y l ∙ ap₂ bitAnd (h .each l b) (k .each l (omega arith)) ∙ mask-mod q (at s (i + l)) (alphabet q a)
 
--- four symbols in one number
-module _ (q x y i : ℕ) (s : List ℕ) (a : isAlphabet q ≡ true) (h : Holds 4 x (from s i)) (k : Holds 4 y (λ l. q - 1)) where
-  remainder : (l : ℕ) → l < 4 → digit 8 (bitAnd x y) l ≡ at s (i + l) % q
-  remainder l b = digit-and 8 x y l ∙ ap₂ bitAnd (h .each l b) (k .each l b) ∙ mask-mod q (at s (i + l)) (alphabet q a)
-
-  pub four-tells : Tells (eqb (bitAnd x y) x) q 4 s i
-  four-tells = record {
+  pub mask-tells : Tells (eqb (bitAnd x y) x) q n s i
+  mask-tells = record {
     yes = λ e l b.
         let z : at s (i + l) % q ≡ at s (i + l) = sym (remainder l b) ∙ ap (λ z. digit 8 z l) (eqb-true _ _ e) ∙ h .each l b in
         omega (arith, z, mod-lt (at s (i + l)) {m = q} (alphabet-positive q a));
-    all = λ f. eq-eqb _ _ (same-digits 4 _ _ (omega (arith, and-le-l x y, h .fits)) (h .fits) (λ l b. remainder l b ∙ mod-eq-of-lt (f l b) ∙ sym (h .each l b)));
+    all = λ f. eq-eqb _ _ (same-digits 8 n _ _ (omega (arith, and-le-l x y, h .fits)) (h .fits) (λ l b. remainder l b ∙ mod-eq-of-lt (f l b) ∙ sym (h .each l b)));
   }
+
+-- two parts, one after the other
+pub tells-join : (a b : Bool) (q n p : ℕ) (s : List ℕ) (i : ℕ) → Tells a q n s i → Tells b q p s (i + n) → Tells (a && b) q (n + p) s i
+tells-join a b q n p s i x y = record {
+  yes = λ e l h. let (f, g) = and-true a b e in either f g l h (decLt l n);
+  all = λ f. ap₂ _&&_ (x .all (λ l h. f l (omega arith))) (y .all (λ l h. subst (λ z. at s z < q) (sym (add-assoc i n l)) (f (n + l) (omega arith))));
+}
+  where
+    either : a ≡ true → b ≡ true → (l : ℕ) → l < n + p → Dec (l < n) → at s (i + l) < q
+    either f g l h (yes d) = x .yes f l d
+    either f g l h (no d) =
+        let e : i + n + (l - n) ≡ i + l = omega arith in
+        subst (λ z. at s z < q) e (y .yes g (l - n) (omega arith))
 
 -- a test that says the same as all questions of a list
 whole : (r : Bool) (q : ℕ) (s : List ℕ) → (r ≡ true → (i : ℕ) → i < length s → at s i < q) → (((i : ℕ) → i < length s → at s i < q) → r ≡ true) → r ≡ allBelow q s

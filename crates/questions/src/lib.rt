@@ -1,10 +1,9 @@
 // The questions that several calls ask, each as a function.
 ghost use mathlib.Core.Path.{_≡_};
 ghost use mathlib.Core.Bool.{true};
-ghost use Prim.Native.Nat.{_+_, _-_, _<_, _≤_, _^_, max};
+ghost use Prim.Native.Nat.{_+_, _<_, _≤_, _^_, max};
 ghost use lib.ListN.{length};
 ghost use Rattle.theory.specs.Question.{isAlphabet, isOrder, allBelow};
-ghost use Rattle.chunk.specs.Chunk.{Holds};
 ghost use Rattle.questions.specs.Part.{Tells};
 
 // Question 1: q is 2, 4 or 8.
@@ -63,21 +62,30 @@ fn wide(x: u8) -> u32
     x as u32
 }
 
-// The mask that takes the remainder by q, in each of four bytes.
-fn mask_of_four(q: u32) -> u64
-    requires { ⌜ isAlphabet q ≡ true ⌝ }
-    ensures { λ r. ⌜ Holds 4 r (λ l. q - 1) ⌝ }
-{
-    (q - 1) as u64 * 0x01010101
-}
-
 // Whether the four symbols from place i on are below q: taking remainders changes none.
 fn four_below(q: u32, s: &[u8], i: usize) -> bool
     requires { ⌜ (isAlphabet q ≡ true) × (i + 4 ≤ length (now s)) ⌝ }
     ensures { λ r. ⌜ Tells r q 4 (now (s .entry)) i ⌝ }
 {
     let x = chunk::four(s, i);
-    x & mask_of_four(q) == x
+    x & chunk::mask(q) == x
+}
+
+// Whether the eight are.
+fn eight_below(q: u32, s: &[u8], i: usize) -> bool
+    requires { ⌜ (isAlphabet q ≡ true) × (i + 8 ≤ length (now s)) ⌝ }
+    ensures { λ r. ⌜ Tells r q 8 (now (s .entry)) i ⌝ }
+{
+    let x = chunk::eight(s, i);
+    x & chunk::mask(q) == x
+}
+
+// Whether the sixteen are.
+fn sixteen_below(q: u32, s: &[u8], i: usize) -> bool
+    requires { ⌜ (isAlphabet q ≡ true) × (i + 16 ≤ length (now s)) ⌝ }
+    ensures { λ r. ⌜ Tells r q 16 (now (s .entry)) i ⌝ }
+{
+    eight_below(q, s, i) & eight_below(q, s, i + 8)
 }
 
 // Question 6 of a message of three to nine symbols. Each length is written out and the tests of one length are joined, so that the
@@ -96,4 +104,19 @@ pub fn message_below(q: u32, m: u32, s: &[u8]) -> bool
         return top_below(q, s, 0, 8);
     }
     top_below(q, s, 1, 8) & top_below(q, s, 0, 1)
+}
+
+// Question 8 of a word of 2^m symbols. The short lengths are written out, and the tests of one length are joined, so that the compiler
+// leaves no loop and one branch.
+pub fn word_below(q: u32, m: u32, word: &[u8]) -> bool
+    requires { ⌜ (isAlphabet q ≡ true) × (2 ≤ m) × (m ≤ 8) × (length (now word) ≡ 2 ^ m) ⌝ }
+    ensures { λ r. ⌜ r ≡ allBelow q (now (word .entry)) ⌝ }
+{
+    match m {
+        2 => four_below(q, word, 0),
+        3 => eight_below(q, word, 0),
+        4 => sixteen_below(q, word, 0),
+        5 => sixteen_below(q, word, 0) & sixteen_below(q, word, 16),
+        _ => all_below(q, word),
+    }
 }

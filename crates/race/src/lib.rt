@@ -27,7 +27,7 @@ pub fn lower(a: u32, b: u32) -> u32
 }
 
 // The larger of the two.
-fn larger(a: u32, b: u32) -> u32
+pub fn larger(a: u32, b: u32) -> u32
     ensures { λ r. ⌜ r ≡ max a b ⌝ }
 {
     if a < b { b } else { a }

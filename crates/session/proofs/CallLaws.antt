@@ -13,6 +13,7 @@ use Rattle.theory.specs.Nearest.{isReadable, nearMessage}
 use Rattle.theory.specs.Question.{ask, accepted, refused, after}
 use Rattle.theory.proofs.QuestionLaws.{ask-yes, ask-on, ask-later, ask-never, answer-yes, answer-no, after-yes, after-no, word-size}
 use Rattle.theory.proofs.NearestLaws.{found-near}
+use Rattle.slots.specs.Step.{Sendable}
 use Rattle.codec.specs.declared.Reading.{Reading}
 use Rattle.codec.specs.declared.Decoded.{Decoded}
 use Rattle.codec.specs.declared.Decoded.the-variants as D
@@ -25,7 +26,7 @@ use Rattle.session.specs.declared.Received.{Received}
 use Rattle.session.specs.Slot.{slots, openRefusal, openAnswer}
 use Rattle.session.specs.Sending.{sendRefusal, sendAnswer, sendConstant, sendSession, sendWord}
 use Rattle.session.specs.Receiving.{soundReceiver, receiveRefusal, missRefusal, receiveConstant, receiveDelivery, receiveAnswer, receiveMessage, nextReceiver, afterReceive, receiveSession, received, receivedSession, missAnswer, missSession}
-use Rattle.session.specs.Step.{Sendable, Deliverable, Delivers}
+use Rattle.session.specs.Step.{Deliverable, Delivers}
 use Rattle.session.proofs.SoundLaws.{sender-parts, receiver-parts, send-yes, miss-yes, receive-yes, readable-found}
 
 -- Open, refused and accepted

@@ -1,7 +1,9 @@
 -- The limits of a session, and its opening.
 use Prim.Native.Nat.{ℕ, _*_}
 use mathlib.Core.List.{[]}
-use Rattle.theory.specs.Question.{ask, isAlphabet, isOrder, Answer, answer}
+use Rattle.theory.specs.Question.{Answer, answer}
+-- the questions of Open
+unfoldable pub use Rattle.slots.specs.Opening.{openRefusal}
 
 -- how many slots a session has at most
 abbrev pub slots : ℕ
@@ -10,13 +12,6 @@ slots = 65536
 -- the time of slot j in ms
 unfoldable pub slotTime : ℕ → ℕ
 slotTime j = j * 1024
-
--- Open asks 1, 2
-unfoldable pub openRefusal : ℕ → ℕ → ℕ
-openRefusal q m =
-    ask (isAlphabet q) 1
-    (ask (isOrder m) 2
-    0)
 
 -- Open answers no values, only a session
 unfoldable pub openAnswer : ℕ → ℕ → Answer

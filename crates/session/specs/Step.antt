@@ -1,31 +1,17 @@
--- What the steps of a send and of a receive ask for and leave. No public contract cites these.
-use Prim.Native.Nat.{ℕ, suc, _^_, _<_}
+-- What the steps of a receive ask for and leave. No public contract cites these.
+use Prim.Native.Nat.{ℕ, _<_}
 use mathlib.Core.Path.{_≡_}
 use mathlib.Core.Bool.{true}
 use mathlib.Core.List.{List}
 use lib.ListN.{length, set}
 use Rattle.theory.specs.Sum.{at}
-use Rattle.theory.specs.Code.{Symbols}
-use Rattle.theory.specs.Question.{isAlphabet, isOrder}
+use Rattle.theory.specs.Question.{isAlphabet}
 use Rattle.session.specs.Slot.{slots}
 use Rattle.session.specs.Receiving.{isBelow, zoneSymbol, delivery, nextReceiver}
 use Rattle.session.specs.declared.Receiver.{Receiver}
 use Rattle.session.specs.declared.Reference.the-variants.{Held}
 use Rattle.session.specs.declared.Received.{Received}
 use Rattle.session.specs.declared.Received.the-variants as R
-
--- w′ is w with the message, its place 0 replaced by the constant, written over its front
-pub record Placed (constant : ℕ) (message w w′ : List ℕ) : Type 0 where
-  pub size : length w′ ≡ length w
-  pub each : (k : ℕ) → k < length message → at w′ k ≡ at (set message 0 constant) k
-
--- the word of the message with this constant fits the word slice
-pub record Sendable (q m constant : ℕ) (message word : List ℕ) : Type 0 where
-  pub alphabet : isAlphabet q ≡ true
-  pub order : isOrder m ≡ true
-  pub below : constant < q
-  pub symbols : Symbols q (suc m) message
-  pub size : length word ≡ 2 ^ m
 
 -- a slot is left, and the message slice holds a message that was read
 pub record Deliverable (s : Receiver) (message : List ℕ) : Type 0 where

@@ -2,13 +2,10 @@
 ghost use mathlib.Core.Path.{_≡_};
 ghost use mathlib.Core.Bool.{true, cond};
 ghost use lib.Dec.{eqb};
-ghost use Prim.Native.Nat.{_+_, _%_, _<_, _≤_};
-ghost use lib.ListN.{length, set};
-ghost use Rattle.theory.specs.Modular.{subMod};
-ghost use Rattle.theory.specs.Code.{codeword};
+ghost use Prim.Native.Nat.{_<_};
 ghost use Rattle.theory.specs.Question.{isAlphabet, refused};
-ghost use Rattle.session.specs.Slot.{slots, slotTime, openRefusal, openAnswer};
-ghost use Rattle.session.specs.Step.{Placed, Sendable, Deliverable, Delivers};
+ghost use Rattle.session.specs.Slot.{slots, slotTime, openAnswer};
+ghost use Rattle.session.specs.Step.{Deliverable, Delivers};
 ghost use Rattle.session.specs.Sending.{openSender, soundSender, sendRefusal, sendAnswer, sendSession, sendWord, senderOpened, openedSender, sent, sentSession};
 ghost use Rattle.session.specs.Receiving.{openReceiver, isBelow, isMissing, soundReceiver, missRefusal, zoneFrom, zoneSymbol, nextReceiver, receiveAnswer, receiveSession, receiveMessage, missAnswer, missSession, receiverOpened, openedReceiver, received, receivedSession, missed, missedSession};
 use codec::Decoded;
@@ -80,62 +77,12 @@ pub enum Missed {
     Refused(u32),
 }
 
-// The number of the first question of Open with a no, 0 where each has a yes.
-fn open_refusal(q: u32, m: u32) -> u32
-    ensures { λ r. ⌜ r ≡ openRefusal q m ⌝ }
-{
-    if !questions::is_alphabet(q) {
-        return 1;
-    }
-    if !questions::is_order(m) {
-        return 2;
-    }
-    0
-}
-
-// a plus b modulo q, by a mask.
-fn add_mod(q: u32, a: u8, b: u8) -> u8
-    requires { ⌜ (isAlphabet q ≡ true) × (a < q) × (b < q) ⌝ }
-    ensures { λ r. ⌜ r ≡ (a + b) % q ⌝ }
-{
-    (a + b) & (q as u8 - 1)
-}
-
-// a minus b modulo q, by a mask.
-fn sub_mod(q: u32, a: u8, b: u8) -> u8
-    requires { ⌜ (isAlphabet q ≡ true) × (a < q) × (b < q) ⌝ }
-    ensures { λ r. ⌜ r ≡ subMod q a b ⌝ }
-{
-    (a + q as u8 - b) & (q as u8 - 1)
-}
-
 // The time of a slot.
 pub fn slot_time(slot: u32) -> u32
     requires { ⌜ slot < slots ⌝ }
     ensures { λ r. ⌜ r ≡ slotTime slot ⌝ }
 {
     slot * Receiver::SLOT_MS
-}
-
-// Copies the message, with the constant in place 0, to the front of a buffer.
-fn place(constant: u8, message: &[u8], copy: &mut [u8])
-    requires { ⌜ (0 < length (now message)) × (length (now message) ≤ length (now copy)) ⌝ }
-    ensures { λ r. ⌜ Placed constant (now (message .entry)) (now (copy .entry)) (now (copy .exit)) ⌝ }
-{
-    for i in 0..message.len() {
-        copy[i] = message[i];
-    }
-    copy[0] = constant;
-}
-
-// Fills the word with the codeword of the message with this constant.
-fn write(q: u32, m: u32, constant: u8, message: &[u8], word: &mut [u8])
-    requires { ⌜ Sendable q m constant (now message) (now word) ⌝ }
-    ensures { λ r. ⌜ now (word .exit) ≡ codeword q m (set (now (message .entry)) 0 constant) ⌝ }
-{
-    let mut copy: [u8; 9] = [0; 9];
-    place(constant, message, &mut copy);
-    codeword::write(q, m, &copy, word);
 }
 
 impl Sender {
@@ -147,7 +94,7 @@ impl Sender {
         ensures answer { λ r. ⌜ senderOpened r ≡ openAnswer q m ⌝ }
         ensures session { λ r. ⌜ openedSender r ≡ openSender q m ⌝ }
     {
-        let number = open_refusal(q, m);
+        let number = slots::open_refusal(q, m);
         if number != 0 {
             return SenderOpened::Refused(number);
         }
@@ -201,8 +148,8 @@ impl Sender {
         if number != 0 {
             return Sent::Refused(number);
         }
-        let constant = add_mod(self.q, self.last, message[0]);
-        write(self.q, self.m, constant, message, word);
+        let constant = slots::add_mod(self.q, self.last, message[0]);
+        slots::write(self.q, self.m, constant, message, word);
         Sent::Used(Sender {
             q: self.q,
             m: self.m,
@@ -239,7 +186,7 @@ impl Reference {
         ensures { λ r. ⌜ r ≡ zoneFrom q self constant ⌝ }
     {
         match self {
-            Reference::Held(reference) => Zone::Known(sub_mod(q, constant, reference)),
+            Reference::Held(reference) => Zone::Known(slots::sub_mod(q, constant, reference)),
             Reference::Missing => Zone::Unknown,
         }
     }
@@ -268,7 +215,7 @@ impl Receiver {
         ensures answer { λ r. ⌜ receiverOpened r ≡ openAnswer q m ⌝ }
         ensures session { λ r. ⌜ openedReceiver r ≡ openReceiver q m ⌝ }
     {
-        let number = open_refusal(q, m);
+        let number = slots::open_refusal(q, m);
         if number != 0 {
             return ReceiverOpened::Refused(number);
         }

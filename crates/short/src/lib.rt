@@ -1,80 +1,147 @@
-// The votes of a short word counted, m up to 5. Each length has a body of its own, with its numbers written out, so that the compiler
-// unrolls the loops: at these lengths most of the time would go into them.
+// Reading words of up to 32 places. There is one message that can be near such a word, and trial compares it with the word. The votes are
+// counted only where it is near and the word has more than one error.
 ghost use mathlib.Core.Path.{_≡_};
-ghost use Prim.Native.Nat.{ℕ, _+_, _^_, _<_, _≤_};
-ghost use lib.ListN.{length};
-ghost use Rattle.theory.specs.Vote.{count};
-ghost use Rattle.tally.specs.Digits.{Units, Counts, gap};
-ghost use Rattle.tally.specs.Received.{Received, Gaps, Tallied};
+ghost use Prim.Native.Nat.{ℕ, _<_, _≤_};
+ghost use lib.ListN.{length, set};
+ghost use Rattle.tally.specs.Received.{Received};
+ghost use Rattle.guess.specs.Guess.{message};
+ghost use Rattle.short.specs.Settled.{Settled, Front};
 
-// Puts the tally of coefficient k behind those below.
-fn put(q: usize, m: u32, k: u32, units: &[u64; 8], word: &[u8], t: &mut [u64; 8])
-    requires { ⌜ Received q m (now word) × Units (now units) × (k < m) × Tallied q m (now word) (now t) k ⌝ }
-    ensures { λ r. ⌜ Tallied q m (now (word .entry)) (now (t .exit)) (k + 1) ⌝ }
-{
-    t[k as usize] = tally::tally(q, m, k, units, word);
+// How a word was read: in how many places it differs from its one candidate, and where that is near, the least lead of its symbols.
+pub struct Outcome {
+    pub wrong: u32,
+    pub margin: u32,
 }
 
-fn tallies_2(q: usize, units: &[u64; 8], word: &[u8], t: &mut [u64; 8])
-    requires { ⌜ Received q 2 (now word) × Units (now units) × Tallied q 2 (now word) (now t) 0 ⌝ }
-    ensures { λ r. ⌜ Tallied q 2 (now (word .entry)) (now (t .exit)) 2 ⌝ }
+// Writes symbol k.
+fn put(s: &mut [u8], k: usize, a: u64)
+    requires { ⌜ (k < length (now s)) × (a < 8) ⌝ }
+    ensures { λ r. ⌜ now (s .exit) ≡ set (now (s .entry)) k a ⌝ }
 {
-    put(q, 2, 0, units, word, t);
-    put(q, 2, 1, units, word, t);
+    s[k] = a as u8;
 }
 
-fn tallies_3(q: usize, units: &[u64; 8], word: &[u8], t: &mut [u64; 8])
-    requires { ⌜ Received q 3 (now word) × Units (now units) × Tallied q 3 (now word) (now t) 0 ⌝ }
-    ensures { λ r. ⌜ Tallied q 3 (now (word .entry)) (now (t .exit)) 3 ⌝ }
+// Writes a message of two coefficients.
+fn store_3(s: &mut [u8], a: u64, c0: u64, c1: u64)
+    requires { ⌜ (3 ≤ length (now s)) × (a < 8) × (c0 < 8) × (c1 < 8) ⌝ }
+    ensures { λ r. ⌜ Front 3 (message a c0 c1 0 0 0) (now (s .entry)) (now (s .exit)) ⌝ }
 {
-    put(q, 3, 0, units, word, t);
-    put(q, 3, 1, units, word, t);
-    put(q, 3, 2, units, word, t);
+    put(s, 0, a);
+    put(s, 1, c0);
+    put(s, 2, c1);
 }
 
-fn tallies_4(q: usize, units: &[u64; 8], word: &[u8], t: &mut [u64; 8])
-    requires { ⌜ Received q 4 (now word) × Units (now units) × Tallied q 4 (now word) (now t) 0 ⌝ }
-    ensures { λ r. ⌜ Tallied q 4 (now (word .entry)) (now (t .exit)) 4 ⌝ }
+// Of three.
+fn store_4(s: &mut [u8], a: u64, c0: u64, c1: u64, c2: u64)
+    requires { ⌜ (4 ≤ length (now s)) × (a < 8) × (c0 < 8) × (c1 < 8) × (c2 < 8) ⌝ }
+    ensures { λ r. ⌜ Front 4 (message a c0 c1 c2 0 0) (now (s .entry)) (now (s .exit)) ⌝ }
 {
-    put(q, 4, 0, units, word, t);
-    put(q, 4, 1, units, word, t);
-    put(q, 4, 2, units, word, t);
-    put(q, 4, 3, units, word, t);
+    store_3(s, a, c0, c1);
+    put(s, 3, c2);
 }
 
-fn tallies_5(q: usize, units: &[u64; 8], word: &[u8], t: &mut [u64; 8])
-    requires { ⌜ Received q 5 (now word) × Units (now units) × Tallied q 5 (now word) (now t) 0 ⌝ }
-    ensures { λ r. ⌜ Tallied q 5 (now (word .entry)) (now (t .exit)) 5 ⌝ }
+// Of four.
+fn store_5(s: &mut [u8], a: u64, c0: u64, c1: u64, c2: u64, c3: u64)
+    requires { ⌜ (5 ≤ length (now s)) × (a < 8) × (c0 < 8) × (c1 < 8) × (c2 < 8) × (c3 < 8) ⌝ }
+    ensures { λ r. ⌜ Front 5 (message a c0 c1 c2 c3 0) (now (s .entry)) (now (s .exit)) ⌝ }
 {
-    put(q, 5, 0, units, word, t);
-    put(q, 5, 1, units, word, t);
-    put(q, 5, 2, units, word, t);
-    put(q, 5, 3, units, word, t);
-    put(q, 5, 4, units, word, t);
+    store_4(s, a, c0, c1, c2);
+    put(s, 4, c3);
 }
 
-// The tallies of all coefficients.
-pub fn tallies(q: usize, m: u32, units: &[u64; 8], word: &[u8], t: &mut [u64; 8])
-    requires { ⌜ Received q m (now word) × Units (now units) × (m ≤ 5) × (length (now t) ≡ 8) ⌝ }
-    ensures { λ r. ⌜ Tallied q m (now (word .entry)) (now (t .exit)) m ⌝ }
+// Of five.
+fn store_6(s: &mut [u8], a: u64, c0: u64, c1: u64, c2: u64, c3: u64, c4: u64)
+    requires { ⌜ (6 ≤ length (now s)) × (a < 8) × (c0 < 8) × (c1 < 8) × (c2 < 8) × (c3 < 8) × (c4 < 8) ⌝ }
+    ensures { λ r. ⌜ Front 6 (message a c0 c1 c2 c3 c4) (now (s .entry)) (now (s .exit)) ⌝ }
 {
-    match m {
-        2 => tallies_2(q, units, word, t),
-        3 => tallies_3(q, units, word, t),
-        4 => tallies_4(q, units, word, t),
-        _ => tallies_5(q, units, word, t),
+    store_5(s, a, c0, c1, c2, c3);
+    put(s, 5, c4);
+}
+
+// Reads a word of four places: it is clean or doubtful.
+pub fn read_4(q: u32, s: &mut [u8], word: &[u8]) -> Outcome
+    requires { ⌜ Received q 2 (now word) × (length (now s) ≡ 3) ⌝ }
+    ensures { λ r. ⌜ Settled q 2 (now (word .entry)) (now (s .entry)) (now (s .exit)) (r .wrong) (r .margin) ⌝ }
+{
+    let t = trial::try_4(q as u64, word);
+    if t.wrong >= 1 {
+        return Outcome {
+            wrong: t.wrong,
+            margin: 0,
+        };
+    }
+    store_3(s, t.constant, t.c0, t.c1);
+    Outcome {
+        wrong: t.wrong,
+        margin: 2,
     }
 }
 
-// The tally of the constant: what all places of a word are ahead of the code's by.
-pub fn residues(q: usize, m: u32, units: &[u64; 8], word: &[u8], code: &[u8]) -> u64
-    requires { ⌜ Gaps q (2 ^ m) (now word) (now code) × Units (now units) × (2 ≤ m) × (m ≤ 5) ⌝ }
-    ensures { λ r. ⌜ Counts q r (count (2 ^ m) (λ i. 0) (gap q (now (word .entry)) (now (code .entry)))) ⌝ }
+// Of eight: it has one error at most, or it is doubtful.
+pub fn read_8(q: u32, s: &mut [u8], word: &[u8]) -> Outcome
+    requires { ⌜ Received q 3 (now word) × (length (now s) ≡ 4) ⌝ }
+    ensures { λ r. ⌜ Settled q 3 (now (word .entry)) (now (s .entry)) (now (s .exit)) (r .wrong) (r .margin) ⌝ }
 {
-    match m {
-        2 => tally::gaps(q, 4, units, word, code),
-        3 => tally::gaps(q, 8, units, word, code),
-        4 => tally::gaps(q, 16, units, word, code),
-        _ => tally::gaps(q, 32, units, word, code),
+    let t = trial::try_8(q as u64, word);
+    if t.wrong >= 2 {
+        return Outcome {
+            wrong: t.wrong,
+            margin: 0,
+        };
+    }
+    store_4(s, t.constant, t.c0, t.c1, t.c2);
+    Outcome {
+        wrong: t.wrong,
+        margin: 4 - 2 * t.wrong,
+    }
+}
+
+// Of sixteen.
+pub fn read_16(q: u32, s: &mut [u8], word: &[u8]) -> Outcome
+    requires { ⌜ Received q 4 (now word) × (length (now s) ≡ 5) ⌝ }
+    ensures { λ r. ⌜ Settled q 4 (now (word .entry)) (now (s .entry)) (now (s .exit)) (r .wrong) (r .margin) ⌝ }
+{
+    let t = trial::try_16(q as u64, word);
+    if t.wrong >= 4 {
+        return Outcome {
+            wrong: t.wrong,
+            margin: 0,
+        };
+    }
+    store_5(s, t.constant, t.c0, t.c1, t.c2, t.c3);
+    if t.wrong < 2 {
+        return Outcome {
+            wrong: t.wrong,
+            margin: 8 - 2 * t.wrong,
+        };
+    }
+    Outcome {
+        wrong: t.wrong,
+        margin: margins::margin_16(q as u64, t.first),
+    }
+}
+
+// Of 32.
+pub fn read_32(q: u32, s: &mut [u8], word: &[u8]) -> Outcome
+    requires { ⌜ Received q 5 (now word) × (length (now s) ≡ 6) ⌝ }
+    ensures { λ r. ⌜ Settled q 5 (now (word .entry)) (now (s .entry)) (now (s .exit)) (r .wrong) (r .margin) ⌝ }
+{
+    let t = trial::try_32(q as u64, word);
+    if t.wrong >= 8 {
+        return Outcome {
+            wrong: t.wrong,
+            margin: 0,
+        };
+    }
+    store_6(s, t.constant, t.c0, t.c1, t.c2, t.c3, t.c4);
+    if t.wrong < 2 {
+        return Outcome {
+            wrong: t.wrong,
+            margin: 16 - 2 * t.wrong,
+        };
+    }
+    Outcome {
+        wrong: t.wrong,
+        margin: margins::margin_32(q as u64, t.first, t.second),
     }
 }

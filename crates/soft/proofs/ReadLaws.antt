@@ -21,7 +21,7 @@ use Rattle.samples.specs.Complex.{Complex, sample}
 use Rattle.samples.specs.Decision.{Decision, decide, isSure, symbol}
 use Rattle.samples.specs.Soft.{voteSums, coefficient, constantSums, decision, softMessage, allInRange, allSure, readRefusal, readAnswer, readMessage}
 use Rattle.samples.proofs.DecisionLaws.{symbol-lt, constant-ext, all-sure}
-use Rattle.sums.specs.Work.{Coefficients, coefficientsIn}
+use Rattle.turns.specs.Work.{Coefficients, coefficientsIn}
 use Rattle.soft.specs.Work.{sliceRefusal, sampleRefusal, sureTo, Found, constantDecision}
 
 -- what the code learns of a decision by the sums z

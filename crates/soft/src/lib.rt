@@ -8,7 +8,8 @@ ghost use lib.ListN.{length, getD, take};
 ghost use Rattle.theory.specs.Sum.{at};
 ghost use Rattle.samples.specs.Numbers.{f32};
 ghost use Rattle.samples.specs.Soft.{inRange, allInRange, voteRefusal, softVote, readAnswer, readMessage};
-ghost use Rattle.sums.specs.Work.{Samples, AllSums};
+ghost use Rattle.sums.specs.Work.{Samples};
+ghost use Rattle.rows.specs.Work.{AllSums};
 ghost use Rattle.decisions.specs.Voted.{voted};
 ghost use Rattle.soft.specs.Answers.{softAnswered};
 ghost use Rattle.soft.specs.Work.{sliceRefusal, sampleRefusal, sureTo, Found, constantDecision};
@@ -133,7 +134,7 @@ fn coefficients(m: u32, re: &[f32], im: &[f32], found: &mut [u8]) -> bool
 {
     let mut sr = [0.0f32; 8];
     let mut si = [0.0f32; 8];
-    sums::all_sums(m, re, im, &mut sr, &mut si);
+    rows::all_sums(m, re, im, &mut sr, &mut si);
     decide_all(m, re, im, &sr, &si, found)
 }
 
@@ -143,8 +144,8 @@ fn constant(m: u32, found: &[u8], re: &[f32], im: &[f32]) -> SoftVote
     ensures { λ r. ⌜ voted r ≡ constantDecision m (now (re .entry)) (now (im .entry)) ⌝ }
 {
     let mut turns = [0u8; 256];
-    sums::quarter_turns(m, found, &mut turns);
-    decisions::decision(sums::constant_sums(m, found, &turns, re, im))
+    turns::quarter_turns(m, found, &mut turns);
+    decisions::decision(turns::constant_sums(m, found, &turns, re, im))
 }
 
 // The questions of the soft read up to 10, for a message slice of so many symbols.

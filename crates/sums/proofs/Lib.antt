@@ -1,4 +1,2 @@
 -- What the functions' proofs share.
 pub mod Steps
-pub mod RowLaws
-pub mod TurnLaws

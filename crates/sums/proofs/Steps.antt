@@ -1,5 +1,5 @@
 -- The indices with bit k clear, their partners, and one vote more. Assumes nothing.
-use Prim.Native.Nat.{ℕ, zero, suc, _+_, _*_, _-_, _/_, _%_, _^_, _≤_, _<_}
+use Prim.Native.Nat.{ℕ, zero, suc, _+_, _*_, _-_, _/_, _^_, _≤_, _<_}
 use mathlib.Core.Path.{_≡_, refl, ap, ap₂, sym, _∙_}
 use mathlib.Core.List.{List}
 use native.Mathlib.Nat.{div-mul-le-self}
@@ -15,7 +15,7 @@ use Rattle.samples.specs.Complex.{Complex, sample, term, plus}
 use Rattle.samples.specs.Soft.{voteSums}
 use Rattle.samples.proofs.SumsLaws.{sums-none, sums-next, votesTo, votes-all}
 use Rattle.sums.specs.Pair.{complex}
-use Rattle.sums.specs.Work.{Samples, voteAt, votesOf, sumsOf}
+use Rattle.sums.specs.Work.{Samples, voteAt}
 
 -- the numbers that the code writes
 pub zero-bits : ofBits binary32 0 ≡ ofInt binary32 (pos 0)
@@ -38,6 +38,14 @@ module _ (m k j : ℕ) (re im : List Float) (s : Samples m re im) (h : k < m) (l
       inside : (m : ℕ) → k < m → j < 2 ^ m / 2 → nthClear k j + 2 ^ k < 2 ^ m
       inside zero h l = absurd (omega arith)
       inside (suc m) h l = nth-partner-lt k m j (omega arith) (omega arith)
+
+-- two at a time, all samples
+pub even-samples : (m : ℕ) {im : List Float} (re : List Float) (b : ℕ) → Samples m re im → b ≡ length re / 2 → 2 * b ≡ 2 ^ m
+even-samples m re b s e = go m (s .low) (s .reals)
+  where
+    go : (m : ℕ) → 2 ≤ m → length re ≡ 2 ^ m → 2 * b ≡ 2 ^ m
+    go zero h f = absurd (omega arith)
+    go (suc m) h f = omega (arith, e, f)
 
 -- what the code read at i is the sample at i
 pub sample-is : (re im : List Float) (i : ℕ) (x y : Float) → x ≡ getD re i (ofInt binary32 (pos 0)) → y ≡ getD im i (ofInt binary32 (pos 0)) → complex x y ≡ sample f32 re im i
@@ -112,8 +120,3 @@ votes-end re im m k b s S h e f = e ∙ votes-all f32 m k (2 * b) (sample f32 re
     fours zero h e = absurd (omega arith)
     fours (suc zero) h e = absurd (omega arith)
     fours (suc (suc m)) h e = omega arith
-
--- all votes of sixteen samples: eight
-pub votes-eight : (re im : List Float) (k j : ℕ) (s : Complex Float) → k < 4 → s ≡ votesOf re im j k → j ≡ 8 → s ≡ sumsOf 4 re im k
-unfolding votesOf sumsOf
-votes-eight re im k j s h e f = e ∙ votes-all f32 4 k j (sample f32 re im) h (omega (arith, f))

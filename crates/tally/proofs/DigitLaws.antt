@@ -33,11 +33,6 @@ unfolding pack
 pack-none zero f h = refl
 pack-none (suc n) f h = omega (arith, h 0 (omega arith), pack-none n (λ v. f (suc v)) (λ v l. h (suc v) (omega arith)))
 
-pack-lt : (n : ℕ) (f : ℕ → ℕ) → ((v : ℕ) → v < n → f v < 256) → pack n f < 256 ^ n
-unfolding pack
-pack-lt zero f h = omega arith
-pack-lt (suc n) f h = omega (arith, h 0 (omega arith), pow-succ' 256 n, pack-lt n (λ v. f (suc v)) (λ v l. h (suc v) (omega arith)))
-
 -- digits below 256 can be read off
 pack-digit : (n v : ℕ) (f : ℕ → ℕ) → ((v : ℕ) → v < n → f v < 256) → v < n → pack n f / 256 ^ v % 256 ≡ f v
 unfolding pack
@@ -55,12 +50,6 @@ pack-more (suc n) zero f g l e h = omega (arith, pack-ext n (λ v. g (suc v)) (�
 pack-more (suc n) (suc d) f g l e h =
     omega (arith, pow-succ' 256 d, h 0 (omega arith) (λ x. absurd (omega (arith, x))), pack-more n d (λ v. f (suc v)) (λ v. g (suc v)) (omega arith) e (λ v l x. h (suc v) (omega arith) (λ y. x (suc-inj y))))
 
-pow-le : (m n : ℕ) → m ≤ n → 256 ^ m ≤ 256 ^ n
-pow-le zero zero h = omega arith
-pow-le zero (suc n) h = omega (arith, pow-succ' 256 n, pow-le zero n (omega arith))
-pow-le (suc m) zero h = absurd (not-suc-le-zero h)
-pow-le (suc m) (suc n) h = omega (arith, pow-succ' 256 m, pow-succ' 256 n, pow-le m n (omega arith))
-
 -- a sum of the units of the votes c 0 to c (n - 1) is the number whose digits are their counts
 units-pack : (q n : ℕ) (c : ℕ → ℕ) → ((i : ℕ) → i < n → c i < q) → sum n (λ i. 256 ^ c i) ≡ pack q (count n (λ i. 0) c)
 unfolding sum count ifClear
@@ -73,14 +62,8 @@ count-le : (n : ℕ) (c : ℕ → ℕ) (v : ℕ) → count n (λ i. 0) c v ≤ n
 unfolding count ifClear
 count-le n c v = omega (arith, sum-bound n 1 (λ i. same (c i) v) (λ i l. same-le (c i) v))
 
-module _ (q n : ℕ) (c : ℕ → ℕ) (few : q ≤ 8) (short : n < 256) (below : (i : ℕ) → i < n → c i < q) where
-  -- THE TALLY fits eight digits
-  pub units-fit : sum n (λ i. 256 ^ c i) < 18446744073709551616
-  units-fit =
-      let e : 256 ^ 8 ≡ 18446744073709551616 = refl in
-      omega (arith, units-pack q n c below, pack-lt q (count n (λ i. 0) c) (λ v l. omega (arith, count-le n c v)), pow-le q 8 few)
-
-  -- and its digit v is the votes for v
+module _ (q n : ℕ) (c : ℕ → ℕ) (short : n < 256) (below : (i : ℕ) → i < n → c i < q) where
+  -- THE TALLY: its digit v is the votes for v
   pub units-digit : (v : ℕ) → v < q → digit (sum n (λ i. 256 ^ c i)) v ≡ count n (λ i. 0) c v
   unfolding digit
   units-digit v l = ap (λ x. x / 256 ^ v % 256) (units-pack q n c below) ∙ pack-digit q v _ (λ u h. omega (arith, count-le n c u)) l

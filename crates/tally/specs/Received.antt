@@ -17,15 +17,6 @@ pub record Received (q m : ℕ) (w : List ℕ) : Type 0 where
   pub high : m ≤ 8
   pub symbols : Symbols q (2 ^ m) w
 
--- two lists whose first n are symbols
-pub record Gaps (q n : ℕ) (w c : List ℕ) : Type 0 where
-  pub alphabet : isAlphabet q ≡ true
-  pub short : n ≤ 128
-  pub inside : n ≤ length w
-  pub even : n ≤ length c
-  pub below : (i : ℕ) → i < n → at w i < q
-  pub under : (i : ℕ) → i < n → at c i < q
-
 -- t has the tallies of the first n coefficients of w
 pub record Tallied (q m : ℕ) (w t : List ℕ) (n : ℕ) : Type 0 where
   pub size : length t ≡ 8

@@ -114,13 +114,18 @@ pub near-true : (q m : ℕ) (y t : List ℕ) → Near q m (at t) (at y) → isNe
 unfolding isNear
 near-true q m y t n = lt-ltb _ _ n
 
--- WINNERS DECIDE: where no value has more votes than the symbol of t, the word reads as t if t is near, else as nothing
-pub winners-decide : (q m : ℕ) → 0 < q → (y t : List ℕ) → Symbols q (suc m) t → Winners q m (at t) (at y) → nearest q m y ≡ firstOr (isNear q m y t) t none
+-- ONE CANDIDATE: where no message but t can be near, the word reads as t if t is near, else as nothing
+pub only-decide : (q m : ℕ) (y t : List ℕ) → Symbols q (suc m) t
+    → ((s : List ℕ) → Symbols q (suc m) s → Near q m (at s) (at y) → (k : ℕ) → k < suc m → at s k ≡ at t k)
+    → nearest q m y ≡ firstOr (isNear q m y t) t none
 unfolding nearest
-winners-decide q m hq y t h w =
+only-decide q m y t h only =
     decided q (suc m) (isNear q m y) t h (λ s k e.
-    ext-getD 0 s t (omega (arith, k .size, h .size))
-    (λ i l. winners-near q m hq (at s) (k .below) (at y) (at t) (h .below) (isNear-true q m y s e) w i (omega (arith, k .size))))
+    ext-getD 0 s t (omega (arith, k .size, h .size)) (λ i l. only s k (isNear-true q m y s e) i (omega (arith, k .size))))
+
+-- WINNERS DECIDE: where no value has more votes than the symbol of t, t is the one candidate
+pub winners-decide : (q m : ℕ) → 0 < q → (y t : List ℕ) → Symbols q (suc m) t → Winners q m (at t) (at y) → nearest q m y ≡ firstOr (isNear q m y t) t none
+winners-decide q m hq y t h w = only-decide q m y t h (λ s k n. winners-near q m hq (at s) (k .below) (at y) (at t) (h .below) n w)
 
 -- FOUND EXACTLY IF NEAR
 pub near-found : (q m : ℕ) → 0 < q → (y t : List ℕ) → Symbols q (suc m) t → Near q m (at t) (at y) → nearest q m y ≡ some t
@@ -150,16 +155,17 @@ pub unreadable : (q m : ℕ) (y : List ℕ) → nearest q m y ≡ none → isRea
 unfolding isReadable
 unreadable q m y e = rw e
 
--- THE READER'S LAW: winners t of all votes are what the word reads as if they are near, and else it is doubtful
+-- THE READER'S LAW: the one candidate t is what the word reads as if it is near, and else the word is doubtful
 pub record Reads (q m : ℕ) (y t : List ℕ) : Type 0 where
   pub near : Near q m (at t) (at y) → (isReadable q m y ≡ true) × (nearMessage q m y ≡ t)
   pub far : (Near q m (at t) (at y) → ⊥) → isReadable q m y ≡ false
 
-pub winners-read : (q m : ℕ) → 0 < q → (y t : List ℕ) → Symbols q (suc m) t → Winners q m (at t) (at y) → Reads q m y t
+pub only-read : (q m : ℕ) (y t : List ℕ) → Symbols q (suc m) t
+    → ((s : List ℕ) → Symbols q (suc m) s → Near q m (at s) (at y) → (k : ℕ) → k < suc m → at s k ≡ at t k) → Reads q m y t
 unfolding firstOr
-winners-read q m hq y t h w = record {
-  near = λ n. readable q m y t (near-found q m hq y t h n);
-  far = λ d. unreadable q m y (winners-decide q m hq y t h w ∙ ap (λ b. firstOr b t none) (far d));
+only-read q m y t h only = record {
+  near = λ n. readable q m y t (only-decide q m y t h only ∙ ap (λ b. firstOr b t none) (near-true q m y t n));
+  far = λ d. unreadable q m y (only-decide q m y t h only ∙ ap (λ b. firstOr b t none) (far d));
 }
   where
     far : (Near q m (at t) (at y) → ⊥) → isNear q m y t ≡ false
@@ -168,3 +174,6 @@ winners-read q m hq y t h w = record {
         go : (b : Bool) → isNear q m y t ≡ b → b ≡ false
         go true e = absurd (d (isNear-true q m y t e))
         go false e = refl
+
+pub winners-read : (q m : ℕ) → 0 < q → (y t : List ℕ) → Symbols q (suc m) t → Winners q m (at t) (at y) → Reads q m y t
+winners-read q m hq y t h w = only-read q m y t h (λ s k n. winners-near q m hq (at s) (k .below) (at y) (at t) (h .below) n w)

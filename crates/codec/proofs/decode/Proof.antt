@@ -1,4 +1,4 @@
--- `decode` meets its contract: the questions give the number, and the winners of the votes decide the reading.
+-- `decode` meets its contract: the questions give the number, and the reading decides question 9.
 use Prim.Native.Nat.{_≤_, _<_, _*_, _^_}
 use mathlib.Core.Path.{_≡_, refl, sym, _∙_}
 use native.Mathlib.Omega.{arith}
@@ -6,7 +6,7 @@ use borrow.Author.Needs.{needs}
 use Rattle.codec.specs.Codec.{wordRefusal, decoded}
 use Rattle.tally.proofs.CountLaws.{word-length}
 use Rattle.codec.proofs.Accepted.{Readable, readable}
-use Rattle.codec.proofs.ReadLaws.{wrong-le, reads, doubts, decode-refused, decode-doubtful, decode-accepted}
+use Rattle.codec.proofs.ReadLaws.{decode-refused, decode-doubtful, decode-accepted}
 use Rattle.codec.proofs.decode.Statement.{statement}
 use Rattle.codec.proofs.decode.Tie as tie
 
@@ -27,18 +27,14 @@ returns : tie.Need-returns
 unfolding decoded
 returns c = decode-refused (c .before .before .before .before .before .args .q) (c .before .before .before .before .before .args .m) (c .before .before .before .before .before .args .message .now) (c .before .before .before .before .before .args .word .now) _ (c .before .word-refusal .ensures) (c .if1 .taken)
 
-winners-requires : tie.Need-winners-requires
-winners-requires c κs = (ready (c .before) .received, refl)
+read-requires : tie.Need-read-requires
+read-requires c κs = let y = ready (c .before) in (y .received, omega (arith, y .sized .message))
 
 mul-if2 : tie.Need-mul-if2
-mul-if2 c =
-    let y = ready (c .before .before .before) in
-    omega (arith, wrong-le _ _ _ _ _ _ (y .sized .some) (y .received) (c .before .winners .ensures))
+mul-if2 c = record { fits = omega (arith, c .before .before .before .read .ensures .few) }
 
 cast-if2 : tie.Need-cast-if2
-cast-if2 c =
-    let y = ready (c .before .before .before) in
-    omega (arith, word-length _ _ _ (y .received))
+cast-if2 c = let y = ready (c .before .before .before .before .before) in record { fits = omega (arith, word-length _ _ _ (y .received)) }
 
 same-length-2 : tie.Need-same-length-2
 same-length-2 c = search needs
@@ -46,13 +42,8 @@ same-length-2 c = search needs
 returns-2 : tie.Need-returns-2
 unfolding decoded
 returns-2 c =
-    let y = ready (c .before .before .before .before) in
-    decode-doubtful (c .before .before .before .before .before .before .before .before .before .args .q) (c .before .before .before .before .before .before .before .before .before .args .m) (c .before .before .before .before .before .before .before .before .before .args .message .now) (c .before .before .before .before .before .before .before .before .before .args .word .now) (yes (c .before .before .before .before)) (doubts _ _ _ _ _ _ (y .sized .some) (y .received) (c .before .before .winners .ensures) (omega (arith, y .received .symbols .size)))
-
-copy-requires : tie.Need-copy-requires
-copy-requires c κs =
     let y = ready (c .before .before .before .before .before .before) in
-    (c .before .before .before .before .winners .ensures .size, omega (arith, y .sized .message, y .sized .high))
+    decode-doubtful (c .before .before .before .before .before .before .before .before .before .before .before .args .q) (c .before .before .before .before .before .before .before .before .before .before .before .args .m) (c .before .before .before .before .before .before .before .before .before .before .before .args .message .now) (c .before .before .before .before .before .before .before .before .before .before .before .args .word .now) _ (yes (c .before .before .before .before .before .before)) (c .before .before .before .before .read .ensures .far (omega (arith, y .received .symbols .size)))
 
 same-length-3 : tie.Need-same-length-3
 same-length-3 c = search needs
@@ -60,8 +51,8 @@ same-length-3 c = search needs
 returns-3 : tie.Need-returns-3
 unfolding decoded
 returns-3 c =
-    let y = ready (c .before .before .before .before .before .before .before .before .before) in
-    decode-accepted (c .before .before .before .before .before .before .before .before .before .before .before .before .before .before .args .q) (c .before .before .before .before .before .before .before .before .before .before .before .before .before .before .args .m) (c .before .before .before .before .before .before .before .before .before .before .before .before .before .before .args .message .now) (c .before .before .before .before .before .before .before .before .before .before .before .before .before .before .args .word .now) _ _ _ _ (yes (c .before .before .before .before .before .before .before .before .before)) (y .sized .message) (c .before .before .copy .ensures) (reads _ _ _ _ _ _ (y .sized .some) (y .received) (c .before .before .before .before .before .before .before .winners .ensures) (omega (arith, y .received .symbols .size)))
+    let y = ready (c .before .before .before .before .before .before) in
+    decode-accepted (c .before .before .before .before .before .before .before .before .before .before .before .args .q) (c .before .before .before .before .before .before .before .before .before .before .before .args .m) (c .before .before .before .before .before .before .before .before .before .before .before .args .message .now) (c .before .before .before .before .before .before .before .before .before .before .before .args .word .now) _ _ _ (yes (c .before .before .before .before .before .before)) (c .before .before .before .before .read .ensures .near (omega (arith, y .received .symbols .size)))
 
 pub decode-spec : {M : Type 1} → statement M
 decode-spec =
@@ -70,11 +61,10 @@ decode-spec =
     word-refusal-requires
     same-length
     returns
-    winners-requires
+    read-requires
     mul-if2
     cast-if2
     same-length-2
     returns-2
-    copy-requires
     same-length-3
     returns-3)

@@ -4,7 +4,7 @@ use mathlib.Core.Bool.{true}
 use borrow.Author.Needs.{needs}
 use borrow.Author.Tests.{not-true, not-false}
 use Rattle.theory.specs.Question.{isWordSize}
-use Rattle.theory.proofs.QuestionLaws.{ask-on, ask-no, word-yes, word-no}
+use Rattle.theory.proofs.QuestionLaws.{ask-on, ask-no, word-yes, word-no, word-size}
 use Rattle.codec.specs.Codec.{sizeRefusal}
 use Rattle.codec.proofs.Accepted.{sized, word-later, word-never}
 use Rattle.codec.proofs.word_refusal.Statement.{statement}
@@ -32,20 +32,22 @@ returns-2 : tie.Need-returns-2
 returns-2 c =
     sym (word-later _ _ _ _ (first (c .before .before)) ∙ ask-no _ _ _ (word-no _ _ (λ z. c .if2 .taken (z ∙ sym (c .before .pow2 .ensures)))))
 
-all-below-requires : tie.Need-all-below-requires
-all-below-requires c κs = sized _ _ _ (first (c .before .before)) .some
+word-below-requires : tie.Need-word-below-requires
+word-below-requires c κs =
+    let y = sized _ _ _ (first (c .before .before)) in
+    (y .alphabet, y .low, y .high, word-size _ _ (size c))
 
 returns-3 : tie.Need-returns-3
 returns-3 c =
     let e = c .before .before in
-    sym (word-later _ _ _ _ (first (e .before .before)) ∙ ask-on _ _ _ (size e) ∙ ask-no _ _ _ (sym (c .before .all-below .ensures) ∙ not-true _ (c .if3 .taken)))
+    sym (word-later _ _ _ _ (first (e .before .before)) ∙ ask-on _ _ _ (size e) ∙ ask-no _ _ _ (sym (c .before .word-below .ensures) ∙ not-true _ (c .if3 .taken)))
 
 returns-4 : tie.Need-returns-4
 returns-4 c =
     let e = c .before .before in
-    sym (word-later _ _ _ _ (first (e .before .before)) ∙ ask-on _ _ _ (size e) ∙ ask-on _ _ _ (sym (c .before .all-below .ensures) ∙ not-false _ (c .if3 .left)))
+    sym (word-later _ _ _ _ (first (e .before .before)) ∙ ask-on _ _ _ (size e) ∙ ask-on _ _ _ (sym (c .before .word-below .ensures) ∙ not-false _ (c .if3 .left)))
 
 pub word-refusal-spec : {M : Type 1} → statement M
 word-refusal-spec =
     tie.close
-    (tie.spec size-refusal-requires returns pow2-requires returns-2 all-below-requires returns-3 returns-4)
+    (tie.spec size-refusal-requires returns pow2-requires returns-2 word-below-requires returns-3 returns-4)

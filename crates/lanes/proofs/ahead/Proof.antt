@@ -1,25 +1,23 @@
--- `ahead` meets its contract.
-use mathlib.Core.Path.{ap₂, _∙_}
-use Rattle.theory.specs.Modular.{subMod}
-use Rattle.digits.specs.Digit.{digit}
-use Rattle.lanes.proofs.BallotLaws.{number-below}
+-- `ahead` meets its contract: no lane stands past the sixteenth.
 use borrow.Author.Needs.{needs}
+use Rattle.lanes.proofs.LaneLaws.{down-below, ahead-is}
 use Rattle.lanes.proofs.ahead.Statement.{statement}
 use Rattle.lanes.proofs.ahead.Tie as tie
 
-number-requires : tie.Need-number-requires
-number-requires c κs = search needs
+mul-less : tie.Need-mul-less
+mul-less c = search needs
 
-number-requires-2 : tie.Need-number-requires-2
-number-requires-2 c κs = search needs
+cast-less : tie.Need-cast-less
+cast-less c = search needs
+
+shr-less : tie.Need-shr-less
+shr-less c = search needs
 
 less-requires : tie.Need-less-requires
-less-requires c κs =
-    let s = c .before .before in
-    (s .pre .0, number-below (s .args .q) (s .args .x .now) (s .args .j) _ (s .pre .2) (s .pre .1) (c .before .number .ensures), number-below (s .args .q) (s .args .y .now) (s .args .j) _ (s .pre .3) (s .pre .1) (c .number2 .ensures))
+less-requires c κs = (c .pre .0, down-below (c .args .q) (c .args .s) (c .args .x) (c .pre .0) (c .fits .x .fits) (c .pre .2), c .pre .2)
 
 returns : tie.Need-returns
-returns c t h = c .less .ensures t h ∙ ap₂ (λ y x. subMod (c .before .before .before .args .q) (digit 4 y t) (digit 4 x t)) (c .before .before .number .ensures) (c .before .number2 .ensures)
+returns c = let s = c .before in ahead-is (s .args .q) (s .args .s) (s .args .x) (c .less .result) (c .less .ensures)
 
 pub ahead-spec : {M : Type 1} → statement M
-ahead-spec = tie.close (tie.spec number-requires number-requires-2 less-requires returns)
+ahead-spec = tie.close (tie.spec mul-less cast-less shr-less less-requires returns)

@@ -13,7 +13,9 @@ use Rattle.majority.proofs.elect_long.Statement.{statement}
 use Rattle.majority.proofs.elect_long.Tie as tie
 
 pairs-requires : tie.Need-pairs-requires
-pairs-requires c κs = search needs
+pairs-requires c κs =
+    let s = c .before .before in
+    (s .pre .1, omega (arith, bounds (s .args .q) (s .pre .0 .alphabet)), refl)
 
 long-tallies-requires : tie.Need-long-tallies-requires
 long-tallies-requires c κs =

@@ -2,7 +2,7 @@
 use Prim.Native.Nat.{_+_, _-_, _≤_, _<_}
 use native.Mathlib.Omega.{arith}
 use Rattle.lanes.proofs.LaneLaws.{less-below}
-use Rattle.poll.proofs.PollLaws.{Gapped, eight-values, gaps-none, gaps-next, gaps-all}
+use Rattle.poll.proofs.PollLaws.{Gapped, listed, gaps-none, gaps-next, gaps-all}
 use borrow.Author.Needs.{needs}
 use Rattle.poll.proofs.gaps.Statement.{statement}
 use Rattle.poll.proofs.gaps.Tie as tie
@@ -16,18 +16,18 @@ abbrev μ-loop : tie.MeasureT-loop
 loop-holds : tie.Need-loop-holds Inv-loop μ-loop
 loop-holds c = (omega arith, gaps-none (c .args .q) (c .args .from) (c .args .x .now) (c .args .y .now))
 
-add-ahead : tie.Need-add-ahead Inv-loop μ-loop
-add-ahead c = omega (arith, c .before .before .pre .4)
+add-gap : tie.Need-add-gap Inv-loop μ-loop
+add-gap c = omega (arith, c .before .before .pre .4)
 
-ahead-requires : tie.Need-ahead-requires Inv-loop μ-loop
-ahead-requires c κs =
+gap-requires : tie.Need-gap-requires Inv-loop μ-loop
+gap-requires c κs =
     let s = c .before .before in
     (s .pre .0, omega (arith, s .pre .4), s .pre .1, s .pre .2)
 
 poll-requires : tie.Need-poll-requires Inv-loop μ-loop
 poll-requires c κs =
     let s = c .before .before .before in
-    (s .pre .3, eight-values (s .args .q) _ (s .pre .0) (less-below (s .args .q) _ _ _ (s .pre .0) (c .ahead .ensures)))
+    listed (s .args .q) _ _ (s .pre .0) (s .pre .3) (less-below (s .args .q) _ _ _ (s .pre .0) (c .gap .ensures))
 
 -- one number more
 next : (c : tie.After-poll Inv-loop μ-loop)
@@ -36,7 +36,7 @@ next : (c : tie.After-poll Inv-loop μ-loop)
 next c =
     let s = c .before .before .before .before in
     let l = c .before .before .before .loop in
-    gaps-next (s .args .q) (s .args .from) (s .args .x .now) (s .args .y .now) (l .i) (l .t) _ _ (omega (arith, s .pre .5)) (l .inv .1) (c .before .ahead .ensures) (c .poll .ensures .0) (c .poll .ensures .1)
+    gaps-next (s .args .q) (s .args .from) (s .args .x .now) (s .args .y .now) (l .i) (l .t) _ _ (omega (arith, s .pre .5)) (l .inv .1) (c .before .gap .ensures) (c .poll .ensures .0) (c .poll .ensures .1)
 
 add-t : tie.Need-add-t Inv-loop μ-loop
 add-t c = record { fits = next c .0 }
@@ -62,8 +62,8 @@ gaps-spec =
     Inv-loop
     μ-loop
     loop-holds
-    add-ahead
-    ahead-requires
+    add-gap
+    gap-requires
     poll-requires
     add-t
     add-i

@@ -1,25 +1,25 @@
 -- `pairs` meets its contract. The loop's invariant: the rows below b are filled.
 use Prim.Native.Nat.{_≤_, _-_}
 use native.Mathlib.Omega.{arith}
-use Rattle.poll.specs.Pairs.{Rows}
+use Rattle.poll.specs.Pairs.{Pairs}
 use Rattle.poll.proofs.PairLaws.{rows-none, rows-next, rows-all}
 use borrow.Author.Needs.{needs}
 use Rattle.poll.proofs.pairs.Statement.{statement}
 use Rattle.poll.proofs.pairs.Tie as tie
 
 abbrev Inv-loop : tie.InvT-loop
-Inv-loop units table₀ b₀ table b = (b ≤ 8) × Rows b table
+Inv-loop q units table₀ b₀ table b = (b ≤ q) × Pairs b table
 
 abbrev μ-loop : tie.MeasureT-loop
-μ-loop units table₀ b₀ table b = 8 - b
+μ-loop q units table₀ b₀ table b = q - b
 
 loop-holds : tie.Need-loop-holds Inv-loop μ-loop
-loop-holds c = (omega arith, rows-none _ (c .pre .1))
+loop-holds c = (omega arith, rows-none _ (c .pre .2))
 
 row-requires : tie.Need-row-requires Inv-loop μ-loop
 row-requires c κs =
-    let l = c .before .before .loop in
-    (c .before .before .before .pre .0, omega arith, l .inv .1 .size)
+    let s = c .before .before .before in
+    (s .pre .0, omega (arith, s .pre .1), c .before .before .loop .inv .1 .size)
 
 add-b : tie.Need-add-b Inv-loop μ-loop
 add-b c = search needs
@@ -30,10 +30,10 @@ loop-less c = search needs
 loop-again : tie.Need-loop-again Inv-loop μ-loop
 loop-again c =
     let l = c .before .before .before .loop in
-    (omega arith, rows-next _ _ _ (omega arith) (l .inv .1) (c .row .ensures))
+    (omega arith, rows-next _ _ _ (omega (arith, c .before .before .before .before .pre .1)) (l .inv .1) (c .row .ensures))
 
 returns : tie.Need-returns Inv-loop μ-loop
-returns c = rows-all (c .before .loop .b) _ (omega arith) (c .before .loop .inv .1)
+returns c = rows-all (c .before .loop .b) _ _ (omega arith) (c .before .loop .inv .1)
 
 pub pairs-spec : {M : Type 1} → statement M
 pairs-spec =

@@ -20,12 +20,13 @@ pair-requires : tie.Need-pair-requires Inv-loop μ-loop
 pair-requires c κs =
     let s = c .before .before in
     let l = c .before .loop in
-    (s .pre .0, lane-below _ _ (l .i) 0 (l .inv .1) (s .pre .1) (omega arith) (omega arith), lane-below _ _ (l .i) 1 (l .inv .1) (s .pre .1) (omega arith) (omega arith))
+    (lane-below _ _ (l .i) 0 (l .inv .1) (s .pre .values) (omega arith) (omega arith), lane-below _ _ (l .i) 1 (l .inv .1) (s .pre .values) (omega arith) (omega arith))
 
 add-t : tie.Need-add-t Inv-loop μ-loop
 add-t c =
+    let s = c .before .before .before in
     let l = c .before .before .loop in
-    record { fits = units-fit _ (l .i) _ _ (units-next _ _ (l .i) _ _ (l .inv .1) (l .inv .2) (c .pair .ensures)) (omega arith) (c .before .before .before .pre .1) }
+    record { fits = units-fit _ (l .i) _ _ (units-next _ _ _ (l .i) _ _ (s .pre) (omega arith) (l .inv .1) (l .inv .2) (c .pair .ensures)) (omega arith) (s .pre .values) }
 
 add-i : tie.Need-add-i Inv-loop μ-loop
 add-i c = search needs
@@ -35,13 +36,14 @@ loop-less c = search needs
 
 loop-again : tie.Need-loop-again Inv-loop μ-loop
 loop-again c =
+    let s = c .before .before .before in
     let l = c .before .before .loop in
-    (omega arith, byte-next _ _ (l .i) (l .inv .1), units-next _ _ (l .i) _ _ (l .inv .1) (l .inv .2) (c .pair .ensures))
+    (omega arith, byte-next _ _ (l .i) (l .inv .1), units-next _ _ _ (l .i) _ _ (s .pre) (omega arith) (l .inv .1) (l .inv .2) (c .pair .ensures))
 
 returns : tie.Need-returns Inv-loop μ-loop
 returns c =
     let l = c .before .loop in
-    units-all _ (l .i) _ (omega arith) (l .inv .2) (c .before .before .pre .1)
+    units-all _ (l .i) _ (omega arith) (l .inv .2) (c .before .before .pre .values)
 
 pub poll-spec : {M : Type 1} → statement M
 poll-spec =

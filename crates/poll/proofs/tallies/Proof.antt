@@ -1,7 +1,7 @@
 -- `tallies` meets its contract. The loop's invariant: the first k tallies stand.
 use Prim.Native.Nat.{_≤_, _-_}
 use native.Mathlib.Omega.{arith}
-use Rattle.tally.proofs.CountLaws.{tallied-none, tallied-next, tallied-all}
+use Rattle.tally.proofs.CountLaws.{tallied-none, tallied-all}
 use Rattle.poll.specs.Polled.{TalliesOf}
 use borrow.Author.Needs.{needs}
 use Rattle.poll.proofs.tallies.Statement.{statement}
@@ -13,20 +13,33 @@ Inv-loop q m table x t₀ k₀ t k = (k ≤ m) × TalliesOf q m x t k
 abbrev μ-loop : tie.MeasureT-loop
 μ-loop q m table x t₀ k₀ t k = m - k
 
+put-requires : tie.Need-put-requires Inv-loop μ-loop
+put-requires c κs =
+    let s = c .before in
+    (s .pre .0, s .pre .1, omega (arith, s .pre .0 .low), λ w p. tallied-none _ _ w _ (s .pre .2))
+
+put-requires-2 : tie.Need-put-requires-2 Inv-loop μ-loop
+put-requires-2 c κs =
+    let s = c .before .before .before in
+    (s .pre .0, s .pre .1, omega (arith, s .pre .0 .low), c .before .put .ensures)
+
+put-requires-3 : tie.Need-put-requires-3 Inv-loop μ-loop
+put-requires-3 c κs =
+    let s = c .before .before .before .before .before in
+    (s .pre .0, s .pre .1, omega (arith, s .pre .0 .low), c .before .put2 .ensures)
+
+put-requires-4 : tie.Need-put-requires-4 Inv-loop μ-loop
+put-requires-4 c κs =
+    let s = c .before .before .before .before .before .before .before in
+    (s .pre .0, s .pre .1, omega (arith, s .pre .0 .low), c .before .put3 .ensures)
+
 loop-holds : tie.Need-loop-holds Inv-loop μ-loop
-loop-holds c = (omega arith, λ w p. tallied-none _ _ w _ (c .pre .2))
+loop-holds c = (omega (arith, c .before .before .before .before .before .before .before .before .pre .0 .low), c .put4 .ensures)
 
-tally-requires : tie.Need-tally-requires Inv-loop μ-loop
-tally-requires c κs = search needs
-
-cast-t : tie.Need-cast-t Inv-loop μ-loop
-cast-t c = search needs
-
-mul-t : tie.Need-mul-t Inv-loop μ-loop
-mul-t c = search needs
-
-element-write-t : tie.Need-element-write-t Inv-loop μ-loop
-element-write-t c = omega (arith, c .before .before .before .pre .0 .high)
+put-requires-5 : tie.Need-put-requires-5 Inv-loop μ-loop
+put-requires-5 c κs =
+    let s = c .before .before .before .before .before .before .before .before .before .before .before in
+    (s .pre .0, s .pre .1, omega (arith, s .pre .0 .low), c .before .before .loop .inv .1)
 
 add-k : tie.Need-add-k Inv-loop μ-loop
 add-k c = search needs
@@ -35,10 +48,7 @@ loop-less : tie.Need-loop-less Inv-loop μ-loop
 loop-less c = search needs
 
 loop-again : tie.Need-loop-again Inv-loop μ-loop
-loop-again c =
-    let s = c .before .before .before in
-    let l = c .before .before .loop in
-    (omega arith, λ w p. tallied-next _ _ (l .k) w _ _ (omega (arith, s .pre .0 .high)) (l .inv .1 w p) (c .tally .ensures w p))
+loop-again c = (omega arith, c .put5 .ensures)
 
 returns : tie.Need-returns Inv-loop μ-loop
 returns c w p = tallied-all _ _ (c .before .loop .k) _ w _ (omega arith) (c .before .loop .inv .1 w p)
@@ -49,11 +59,12 @@ tallies-spec =
     (tie.spec
     Inv-loop
     μ-loop
+    put-requires
+    put-requires-2
+    put-requires-3
+    put-requires-4
     loop-holds
-    tally-requires
-    cast-t
-    mul-t
-    element-write-t
+    put-requires-5
     add-k
     loop-less
     loop-again

@@ -2,7 +2,7 @@
 use Prim.Native.Nat.{_+_, _-_, _^_, _≤_, _<_}
 use mathlib.Core.Path.{_≡_}
 use native.Mathlib.Omega.{arith}
-use Rattle.poll.proofs.PollLaws.{Balloted, ballots-none, reach, eight-values, ballots-next, ballots-all}
+use Rattle.poll.proofs.PollLaws.{Balloted, ballots-none, reach, listed, ballots-next, ballots-all}
 use borrow.Author.Needs.{needs}
 use Rattle.poll.proofs.tally.Statement.{statement}
 use Rattle.poll.proofs.tally.Tie as tie
@@ -30,7 +30,7 @@ ballot-requires c κs =
 poll-requires : tie.Need-poll-requires Inv-loop μ-loop
 poll-requires c κs =
     let s = c .before .before .before .before in
-    (s .pre .1, eight-values (s .args .q) _ (s .pre .0 .alphabet) (c .ballot .ensures .1))
+    listed (s .args .q) _ _ (s .pre .0 .alphabet) (s .pre .1) (c .ballot .ensures .1)
 
 -- one ballot more
 next : (c : tie.After-poll Inv-loop μ-loop)

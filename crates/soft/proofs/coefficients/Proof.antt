@@ -1,5 +1,5 @@
 -- `coefficients` meets its contract, by the sums of all coefficients.
-use Rattle.sums.proofs.RowLaws.{sums-zero}
+use Rattle.rows.proofs.RowLaws.{sums-zero}
 use borrow.Author.Needs.{needs}
 use Rattle.soft.proofs.coefficients.Statement.{statement}
 use Rattle.soft.proofs.coefficients.Tie as tie

@@ -1,0 +1,138 @@
+// The message of a word of 4, 8, 16 or 32 places, by the value that most votes have, with no count of the others. The word stands in the
+// four-bit lanes of one number, or of two, as lanes packs it. One vote is left out where their number is even; if any message is near the
+// word, it is this one.
+ghost use mathlib.Core.Path.{_≡_};
+ghost use mathlib.Core.Bool.{true};
+ghost use Prim.Native.Nat.{ℕ, _+_, _%_, _<_};
+ghost use Rattle.theory.specs.Question.{isAlphabet};
+ghost use Rattle.lanes.specs.Lane.{Below};
+ghost use Rattle.sliced.specs.Most.{threeOf, sevenOf, fifteenOf};
+ghost use Rattle.guess.specs.Guess.{Rest, Chosen, message, GuessOf, GuessOfBoth};
+
+// What is left of a word when the word of four coefficients is taken out: the votes for the constant.
+fn rest(q: u64, x: u64, c0: u64, c1: u64, c2: u64, c3: u64) -> u64
+    requires { ⌜ (isAlphabet q ≡ true) × Below q x × (c0 < q) × (c1 < q) × (c2 < q) × (c3 < q) ⌝ }
+    ensures { λ r. ⌜ Rest q x c0 c1 c2 c3 r ⌝ }
+{
+    lanes::less(q, x, errors::code(q, c0, c1, c2, c3))
+}
+
+// The symbol in the low bits of a number.
+fn symbol(q: u64, x: u64) -> u64
+    requires { ⌜ isAlphabet q ≡ true ⌝ }
+    ensures { λ r. ⌜ r ≡ x % q ⌝ }
+{
+    x & (q - 1)
+}
+
+// The symbol that two or more of the lanes 0, a and b are.
+fn three(q: u64, d: u64, a: u32, b: u32) -> u64
+    requires { ⌜ (isAlphabet q ≡ true) × (a < 16) × (b < 16) ⌝ }
+    ensures { λ r. ⌜ Chosen q 2 (threeOf d a b) r ⌝ }
+{
+    symbol(q, sliced::most_of_3(d, a, b))
+}
+
+// The symbol that four or more of the seven lanes are.
+fn seven(q: u64, d: u64, a: u32, b: u32, c: u32) -> u64
+    requires { ⌜ (isAlphabet q ≡ true) × (a + b + c < 16) ⌝ }
+    ensures { λ r. ⌜ Chosen q 4 (sevenOf d a b c) r ⌝ }
+{
+    symbol(q, sliced::most_of_7(d, a, b, c))
+}
+
+// The symbol that eight or more of the fifteen lanes are.
+fn fifteen(q: u64, d: u64, e: u64, a: u32, b: u32, c: u32) -> u64
+    requires { ⌜ (isAlphabet q ≡ true) × (a + b + c < 16) ⌝ }
+    ensures { λ r. ⌜ Chosen q 8 (fifteenOf d e a b c) r ⌝ }
+{
+    symbol(q, sliced::most_of_15(d, e, a, b, c))
+}
+
+// The constant and the coefficients of a message; those past its order are 0.
+pub struct Guess {
+    pub constant: u64,
+    pub c0: u64,
+    pub c1: u64,
+    pub c2: u64,
+    pub c3: u64,
+    pub c4: u64,
+}
+
+// The guess of a word of 4 places: one vote for each coefficient, and place 0 is the constant.
+pub fn guess_4(q: u64, x: u64) -> Guess
+    requires { ⌜ (isAlphabet q ≡ true) × Below q x ⌝ }
+    ensures { λ r. ⌜ (r .c2 ≡ 0) × (r .c3 ≡ 0) × (r .c4 ≡ 0) × GuessOf q 2 x (message (r .constant) (r .c0) (r .c1) (r .c2) (r .c3) (r .c4)) ⌝ }
+{
+    let c0 = symbol(q, lanes::ahead(q, 2, x));
+    let c1 = symbol(q, lanes::ahead(q, 4, x));
+    Guess {
+        constant: symbol(q, x),
+        c0,
+        c1,
+        c2: 0,
+        c3: 0,
+        c4: 0,
+    }
+}
+
+// The guess of a word of 8 places: three of four votes for each coefficient, and three of eight for the constant.
+pub fn guess_8(q: u64, x: u64) -> Guess
+    requires { ⌜ (isAlphabet q ≡ true) × Below q x ⌝ }
+    ensures { λ r. ⌜ (r .c3 ≡ 0) × (r .c4 ≡ 0) × GuessOf q 3 x (message (r .constant) (r .c0) (r .c1) (r .c2) (r .c3) (r .c4)) ⌝ }
+{
+    let c0 = three(q, lanes::ahead(q, 2, x), 4, 8);
+    let c1 = three(q, lanes::ahead(q, 4, x), 2, 8);
+    let c2 = three(q, lanes::ahead(q, 8, x), 2, 4);
+    let left = rest(q, x, c0, c1, c2, 0);
+    Guess {
+        constant: three(q, left, 2, 4),
+        c0,
+        c1,
+        c2,
+        c3: 0,
+        c4: 0,
+    }
+}
+
+// The guess of a word of 16 places: seven of eight votes for each coefficient, and seven of sixteen for the constant.
+pub fn guess_16(q: u64, x: u64) -> Guess
+    requires { ⌜ (isAlphabet q ≡ true) × Below q x ⌝ }
+    ensures { λ r. ⌜ (r .c4 ≡ 0) × GuessOf q 4 x (message (r .constant) (r .c0) (r .c1) (r .c2) (r .c3) (r .c4)) ⌝ }
+{
+    let c0 = seven(q, lanes::ahead(q, 2, x), 4, 8, 1);
+    let c1 = seven(q, lanes::ahead(q, 4, x), 2, 8, 1);
+    let c2 = seven(q, lanes::ahead(q, 8, x), 2, 4, 1);
+    let c3 = seven(q, lanes::ahead(q, 1, x), 2, 4, 8);
+    let left = rest(q, x, c0, c1, c2, c3);
+    Guess {
+        constant: seven(q, left, 2, 4, 8),
+        c0,
+        c1,
+        c2,
+        c3,
+        c4: 0,
+    }
+}
+
+// The guess of a word of 32 places: fifteen of sixteen votes for each coefficient, and fifteen of the first sixteen for the constant.
+pub fn guess_32(q: u64, x: u64, y: u64) -> Guess
+    requires { ⌜ (isAlphabet q ≡ true) × Below q x × Below q y ⌝ }
+    ensures { λ r. ⌜ GuessOfBoth q 5 x y (message (r .constant) (r .c0) (r .c1) (r .c2) (r .c3) (r .c4)) ⌝ }
+{
+    let c0 = fifteen(q, lanes::ahead(q, 2, x), lanes::ahead(q, 2, y), 4, 8, 1);
+    let c1 = fifteen(q, lanes::ahead(q, 4, x), lanes::ahead(q, 4, y), 2, 8, 1);
+    let c2 = fifteen(q, lanes::ahead(q, 8, x), lanes::ahead(q, 8, y), 2, 4, 1);
+    let c3 = fifteen(q, lanes::ahead(q, 1, x), lanes::ahead(q, 1, y), 2, 4, 8);
+    let d = lanes::less(q, y, x);
+    let c4 = fifteen(q, d, d >> 4, 2, 4, 8);
+    let left = rest(q, x, c0, c1, c2, c3);
+    Guess {
+        constant: fifteen(q, left, left >> 4, 2, 4, 8),
+        c0,
+        c1,
+        c2,
+        c3,
+        c4,
+    }
+}

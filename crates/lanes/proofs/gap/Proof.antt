@@ -1,0 +1,25 @@
+-- `gap` meets its contract.
+use mathlib.Core.Path.{ap₂, _∙_}
+use Rattle.theory.specs.Modular.{subMod}
+use Rattle.digits.specs.Digit.{digit}
+use Rattle.lanes.proofs.BallotLaws.{number-below}
+use borrow.Author.Needs.{needs}
+use Rattle.lanes.proofs.gap.Statement.{statement}
+use Rattle.lanes.proofs.gap.Tie as tie
+
+number-requires : tie.Need-number-requires
+number-requires c κs = search needs
+
+number-requires-2 : tie.Need-number-requires-2
+number-requires-2 c κs = search needs
+
+less-requires : tie.Need-less-requires
+less-requires c κs =
+    let s = c .before .before in
+    (s .pre .0, number-below (s .args .q) (s .args .x .now) (s .args .j) _ (s .pre .2) (s .pre .1) (c .before .number .ensures), number-below (s .args .q) (s .args .y .now) (s .args .j) _ (s .pre .3) (s .pre .1) (c .number2 .ensures))
+
+returns : tie.Need-returns
+returns c t h = c .less .ensures t h ∙ ap₂ (λ y x. subMod (c .before .before .before .args .q) (digit 4 y t) (digit 4 x t)) (c .before .before .number .ensures) (c .before .number2 .ensures)
+
+pub gap-spec : {M : Type 1} → statement M
+gap-spec = tie.close (tie.spec number-requires number-requires-2 less-requires returns)

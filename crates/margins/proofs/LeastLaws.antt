@@ -1,0 +1,132 @@
+-- The leads by equal votes, and the least of them. Assumes nothing.
+use Prim.Native.Nat.{ℕ, zero, suc, _+_, _*_, _-_, _/_, _^_, _≤_, _<_, min, max}
+use mathlib.Core.Path.{_≡_, refl, ap₂, sym, _∙_}
+use mathlib.Core.Bool.{true}
+use native.Mathlib.Omega.{arith}
+use Rattle.theory.specs.Modular.{subMod}
+use Rattle.theory.specs.Vote.{votes}
+use Rattle.theory.specs.Margin.{lead, least}
+use Rattle.theory.specs.Question.{isAlphabet}
+use Rattle.theory.proofs.QuestionLaws.{alphabet, alphabet-bounds, alphabet-positive}
+use Rattle.theory.proofs.MarginLaws.{least-ext}
+use Rattle.theory.proofs.ErrorLaws.{sumFrom1, maxFrom1, lead-zero}
+use Rattle.digits.specs.Digit.{digit}
+use Rattle.lanes.specs.Lane.{Lanes, Below}
+use Rattle.lanes.proofs.LaneLaws.{less-below}
+use Rattle.leads.specs.Lead.{marked, Marked}
+use Rattle.margins.specs.Margins.{placeOf, placesOf, aheadAt, castBy, bothVotes, leadBy, Marks, Errors}
+use Rattle.lanes.proofs.LaneLaws.{down-below}
+use Rattle.margins.proofs.CastLaws.{Polls, polls-3, ahead-eight, marked-cast, marked-last, none-below, both-none, votes-both}
+
+-- sums and maxima of equal terms
+pub sumFrom1-ext : (n : ℕ) (f g : ℕ → ℕ) → ((v : ℕ) → 1 ≤ v → f v ≡ g v) → sumFrom1 n f ≡ sumFrom1 n g
+unfolding sumFrom1
+sumFrom1-ext zero f g h = refl
+sumFrom1-ext (suc n) f g h = ap₂ (λ x y. x + y) (sumFrom1-ext n f g h) (h (suc n) (omega arith))
+
+pub maxFrom1-ext : (n : ℕ) (f g : ℕ → ℕ) → ((v : ℕ) → 1 ≤ v → f v ≡ g v) → maxFrom1 n f ≡ maxFrom1 n g
+unfolding maxFrom1
+maxFrom1-ext zero f g h = refl
+maxFrom1-ext (suc n) f g h = ap₂ max (maxFrom1-ext n f g h) (h (suc n) (omega arith))
+
+pub leadBy-ext : (q half : ℕ) (f g : ℕ → ℕ) → ((v : ℕ) → 1 ≤ v → f v ≡ g v) → leadBy q half f ≡ leadBy q half g
+unfolding leadBy
+leadBy-ext q half f g h = ap₂ (λ x y. half - x - y) (sumFrom1-ext (q - 1) f g h) (maxFrom1-ext (q - 1) f g h)
+
+-- the alphabet's bounds as code needs them
+pub size : (q : ℕ) → isAlphabet q ≡ true → (2 ≤ q) × (q ≤ 8)
+size q a = alphabet-bounds q (alphabet q a)
+
+-- FEW WRONG VOTES stay few where the votes are equal
+pub few-same : (q half : ℕ) (f g : ℕ → ℕ) → ((v : ℕ) → 1 ≤ v → f v ≡ g v) → 2 * sumFrom1 (q - 1) g ≤ half → 2 * sumFrom1 (q - 1) f ≤ half
+few-same q half f g e l = omega (arith, sumFrom1-ext (q - 1) f g e, l)
+
+-- a lead as `leads` tells it
+pub lead-same : (q half r : ℕ) (f g : ℕ → ℕ) → ((v : ℕ) → 1 ≤ v → f v ≡ g v) → r ≡ half - sumFrom1 (q - 1) f - maxFrom1 (q - 1) f → r ≡ leadBy q half g
+unfolding leadBy
+lead-same q half r f g e k = k ∙ leadBy-ext q half f g e
+
+-- THE LEAD OF LANES: d and e hold by how much the lanes of f and h are behind their partners
+module _ (q half s c f h d e : ℕ) (m : Marks q half s c f h) (ld : Lanes d (aheadAt q s f)) (le : Lanes e (aheadAt q s h)) where
+  pub lanes-marked : Marked d e c
+  lanes-marked = record { first = ahead-eight q s f d (m .alphabet) ld; second = ahead-eight q s h e (m .alphabet) le; mask = m .mask }
+
+  pub lanes-few : 2 * sumFrom1 (q - 1) (marked d e c) ≤ half
+  lanes-few = few-same q half (marked d e c) (castBy q s c f h) (λ v _. marked-cast q s c f h d e ld le v) (m .few)
+
+  pub lanes-lead : (r : ℕ) → r ≡ half - sumFrom1 (q - 1) (marked d e c) - maxFrom1 (q - 1) (marked d e c) → r ≡ leadBy q half (castBy q s c f h)
+  lanes-lead r k = lead-same q half r (marked d e c) (castBy q s c f h) (λ v _. marked-cast q s c f h d e ld le v) k
+
+-- THE LEAD OF COEFFICIENT 4: d holds by how much the lanes of f are behind those of h
+module _ (q f h d : ℕ) (a : isAlphabet q ≡ true) (ld : Lanes d (λ t. subMod q (digit 4 h t) (digit 4 f t))) where
+  last-below : Below q d
+  last-below = less-below q h f d a ld
+
+  pub last-marked : d < 18446744073709551616 → Marked d (d / 2 ^ 4) 0x0101_0101_0101_0101
+  last-marked hd = record {
+    first = λ t i. omega (arith, last-below t i, size q a);
+    second = λ t i. omega (arith, down-below q 1 d a hd last-below t i, size q a);
+    mask = polls-3 .mask;
+  }
+
+  pub last-few : 2 * sumFrom1 (q - 1) (votes q 5 4 (placesOf f h)) ≤ 16 → 2 * sumFrom1 (q - 1) (marked d (d / 2 ^ 4) 0x0101_0101_0101_0101) ≤ 16
+  last-few l = few-same q 16 (marked d (d / 2 ^ 4) 0x0101_0101_0101_0101) (votes q 5 4 (placesOf f h)) (λ v _. marked-last q f h d ld v) l
+
+  pub last-lead : (r : ℕ) → r ≡ 16 - sumFrom1 (q - 1) (marked d (d / 2 ^ 4) 0x0101_0101_0101_0101) - maxFrom1 (q - 1) (marked d (d / 2 ^ 4) 0x0101_0101_0101_0101) → r ≡ leadBy q 16 (votes q 5 4 (placesOf f h))
+  last-lead r k = lead-same q 16 r (marked d (d / 2 ^ 4) 0x0101_0101_0101_0101) (votes q 5 4 (placesOf f h)) (λ v _. marked-last q f h d ld v) k
+
+-- ONE COEFFICIENT, below 4
+pub marks-of : (k s c q half f h : ℕ) → Polls k s c → Errors q half f h → Marks q half s c f h
+marks-of k s c q half f h p e = record {
+  alphabet = e .alphabet;
+  first = e .first;
+  second = e .second;
+  near = p .near;
+  mask = p .mask;
+  size = e .size;
+  few = few-same q half (castBy q s c f h) (bothVotes q k f h) (λ v _. p .polled q f h v) (e .few k (p .coefficient));
+}
+
+pub lead-polled : (k s c q half f h r : ℕ) → Polls k s c → r ≡ leadBy q half (castBy q s c f h) → r ≡ leadBy q half (bothVotes q k f h)
+lead-polled k s c q half f h r p e = e ∙ leadBy-ext q half (castBy q s c f h) (bothVotes q k f h) (λ v _. p .polled q f h v)
+
+-- THE LEAST OF FOUR, one after the other
+pub least-four : (g : ℕ → ℕ) (a b c d r1 r2 r3 : ℕ) → a ≡ g 0 → b ≡ g 1 → r1 ≡ min a b → c ≡ g 2 → r2 ≡ min r1 c → d ≡ g 3 → r3 ≡ min r2 d → r3 ≡ least 3 g
+unfolding least
+least-four g a b c d r1 r2 r3 ea eb e1 ec e2 ed e3 = omega arith
+
+-- 16 PLACES: the second number casts no wrong vote
+pub errors-16 : (q f : ℕ) → isAlphabet q ≡ true → Below q f → ((k : ℕ) → k < 4 → sumFrom1 (q - 1) (votes q 4 k (placeOf f)) < 4) → Errors q 8 f 0
+errors-16 q f a bf l = record {
+  alphabet = a;
+  first = bf;
+  second = none-below q a;
+  size = omega arith;
+  few = λ k h. few-same q 8 (bothVotes q k f 0) (votes q 4 k (placeOf f)) (both-none q k f (alphabet-positive q a)) (omega (arith, l k h));
+}
+
+pub margin-16-is : (q f r : ℕ) → isAlphabet q ≡ true → r ≡ least 3 (λ k. leadBy q 8 (bothVotes q k f 0)) → r ≡ least 3 (λ k. lead q 0 (votes q 4 k (placeOf f)))
+unfolding leadBy
+margin-16-is q f r a e =
+    e ∙ least-ext 3 (λ k. leadBy q 8 (bothVotes q k f 0)) (λ k. lead q 0 (votes q 4 k (placeOf f)))
+    (λ k l. leadBy-ext q 8 (bothVotes q k f 0) (votes q 4 k (placeOf f)) (both-none q k f (alphabet-positive q a)) ∙ sym (lead-zero q 4 k (placeOf f) (alphabet-positive q a) l))
+
+-- 32 PLACES: each number casts its own votes for the coefficients 0 to 3
+pub errors-32 : (q f h : ℕ) → isAlphabet q ≡ true → Below q f → Below q h → ((k : ℕ) → k < 5 → sumFrom1 (q - 1) (votes q 5 k (placesOf f h)) < 8) → Errors q 16 f h
+errors-32 q f h a bf bh l = record {
+  alphabet = a;
+  first = bf;
+  second = bh;
+  size = omega arith;
+  few = λ k i. few-same q 16 (bothVotes q k f h) (votes q 5 k (placesOf f h)) (λ v _. sym (votes-both q k f h i v)) (omega (arith, l k (omega arith)));
+}
+
+pub margin-32-is : (q f h a b r : ℕ) → isAlphabet q ≡ true → a ≡ least 3 (λ k. leadBy q 16 (bothVotes q k f h)) → b ≡ leadBy q 16 (votes q 5 4 (placesOf f h)) → r ≡ min a b
+    → r ≡ least 4 (λ k. lead q 0 (votes q 5 k (placesOf f h)))
+unfolding leadBy least
+margin-32-is q f h a b r al ea eb e = e ∙ ap₂ min (ea ∙ four) (eb ∙ sym (lead-zero q 5 4 (placesOf f h) (alphabet-positive q al) (omega arith)))
+  where
+    four : least 3 (λ k. leadBy q 16 (bothVotes q k f h)) ≡ least 3 (λ k. lead q 0 (votes q 5 k (placesOf f h)))
+    four =
+        least-ext 3 (λ k. leadBy q 16 (bothVotes q k f h)) (λ k. lead q 0 (votes q 5 k (placesOf f h)))
+        (λ k l. leadBy-ext q 16 (bothVotes q k f h) (votes q 5 k (placesOf f h)) (λ v _. sym (votes-both q k f h l v)) ∙ sym (lead-zero q 5 k (placesOf f h) (alphabet-positive q al) (omega arith)))

@@ -1,0 +1,99 @@
+-- The quarter turns as a word, and the samples turned back by them. Assumes nothing.
+use Prim.Native.Nat.{ℕ, zero, suc, _+_, _*_, _%_, _^_, _≤_, _<_}
+use mathlib.Core.Path.{_≡_, refl, ap, ap₂, sym, _∙_}
+use mathlib.Core.List.{List, [], _∷_}
+use native.Mathlib.Nat.{mod-lt, zero-add, le-of-suc-le-suc}
+use native.Mathlib.Omega.{arith}
+use lib.Bits.{bitAnd}
+use lib.ListN.{length, getD}
+use lib.Pow.{pow-mono}
+use lib.Ieee.{Float, binary32, ofBits, neg, nan}
+use Rattle.theory.specs.Sum.{at}
+use Rattle.theory.specs.Code.{linear, symbolAt}
+use Rattle.theory.specs.Question.{isAlphabet}
+use Rattle.codeword.specs.Coded.{Fits, Coded}
+use Rattle.samples.specs.Numbers.{f32}
+use Rattle.samples.specs.Complex.{Complex, sample, turnBack, plus}
+use Rattle.samples.specs.Soft.{constantSums}
+use Rattle.samples.proofs.SumsLaws.{sums-none, sums-next, backTo, back-all}
+use Rattle.sums.proofs.Steps.{zero-bits}
+use Rattle.sums.specs.Pair.{complex}
+use Rattle.sums.specs.Work.{Samples}
+use Rattle.turns.specs.Work.{Coefficients, coefficientsIn, Turns}
+
+-- ---- the turns are a word
+pub turns-fit : (m : ℕ) (found t : List ℕ) → 2 ≤ m → m ≤ 8 → Coefficients m found → length t ≡ 256 → Fits 4 m found t
+unfolding isAlphabet
+turns-fit m found t l h c e = record {
+  alphabet = refl;
+  low = l;
+  order = h;
+  size = omega (arith, c .size);
+  below = below;
+  room = omega (arith, e, pow-mono {i = m} {j = 8} h);
+}
+  where
+    below : (k : ℕ) → k < suc m → at found k < 4
+    below zero i = omega (arith, c .zeroth)
+    below (suc k) i = c .below k (le-of-suc-le-suc i)
+
+pub turns-coded : (m : ℕ) (found t u : List ℕ) → Coefficients m found → length t ≡ 256 → length u ≡ length t → Coded 4 m found u → Turns m found u
+unfolding symbolAt coefficientsIn
+turns-coded m found t u c e f d = record {
+  size = f ∙ e;
+  each = λ i l. d .each i l ∙ ap (λ x. (x + linear m (λ k. at found (suc k)) i) % 4) (c .zeroth) ∙ ap (λ x. x % 4) (zero-add _);
+}
+
+pub turns-below : (k : ℕ) (found t : List ℕ) → Turns k found t → (i : ℕ) → i < 2 ^ k → at t i < 4
+turns-below k found t f i l = rw (f .each i l) (mod-lt _ (omega arith))
+
+-- ---- the samples turned back
+-- three quarter turns, or what the code takes for them
+pub turn-rest : (t : ℕ) (x y : Float) → (t ≡ 0 → ⊥) → (t ≡ 1 → ⊥) → (t ≡ 2 → ⊥) → turnBack f32 t (complex x y) ≡ complex (neg y) x
+unfolding turnBack
+turn-rest zero x y a b c = absurd (a refl)
+turn-rest (suc zero) x y a b c = absurd (b refl)
+turn-rest (suc (suc zero)) x y a b c = absurd (c refl)
+turn-rest (suc (suc (suc t))) x y a b c = refl
+
+-- the four signed parts in a table
+pub turn-table : (t : ℕ) (x y : Float) → t < 4
+    → complex (getD (x ∷ y ∷ neg x ∷ neg y ∷ []) t nan) (getD (x ∷ y ∷ neg x ∷ neg y ∷ []) (bitAnd (t + 1) 3) nan) ≡ turnBack f32 t (complex x y)
+unfolding turnBack
+turn-table zero x y h = refl
+turn-table (suc zero) x y h = refl
+turn-table (suc (suc zero)) x y h = refl
+turn-table (suc (suc (suc zero))) x y h = refl
+turn-table (suc (suc (suc (suc t)))) x y h = absurd (omega arith)
+
+module _ (m : ℕ) (c : ℕ → ℕ) (re im : List Float) where
+  pub back-none : complex (ofBits binary32 0) (ofBits binary32 0) ≡ backTo f32 m c (sample f32 re im) 0
+  unfolding backTo
+  back-none = ap₂ complex zero-bits zero-bits ∙ sym (sums-none f32 (λ i. 0) _)
+
+  pub back-next : (i t : ℕ) (s r z : Complex Float) → s ≡ backTo f32 m c (sample f32 re im) i → t ≡ linear m c i % 4 → z ≡ sample f32 re im i
+      → r ≡ plus f32 s (turnBack f32 t z) → r ≡ backTo f32 m c (sample f32 re im) (i + 1)
+  unfolding backTo
+  back-next i t s r z e f Z R =
+      R
+      ∙ ap₂ (plus f32) e (ap₂ (turnBack f32) f Z)
+      ∙ sym (sums-next f32 i (λ i. turnBack f32 (linear m c i % 4) (sample f32 re im i)))
+
+  -- two samples more
+  pub back-more : (b t u : ℕ) (s r v z w : Complex Float) → s ≡ backTo f32 m c (sample f32 re im) (2 * b)
+      → t ≡ linear m c (2 * b) % 4 → z ≡ turnBack f32 t (sample f32 re im (2 * b)) → r ≡ plus f32 s z
+      → u ≡ linear m c (2 * b + 1) % 4 → w ≡ turnBack f32 u (sample f32 re im (2 * b + 1)) → v ≡ plus f32 r w
+      → v ≡ backTo f32 m c (sample f32 re im) (2 * (b + 1))
+  back-more b t u s r v z w e f Z R g W X =
+      back-next (2 * b + 1) u r v _ (back-next (2 * b) t s r _ e f refl (R ∙ ap (plus f32 s) Z)) g refl (X ∙ ap (plus f32 r) W)
+      ∙ ap (backTo f32 m c (sample f32 re im)) (omega arith)
+
+  pub back-end : (i : ℕ) (s : Complex Float) → s ≡ backTo f32 m c (sample f32 re im) i → i ≡ 2 ^ m → s ≡ constantSums f32 m c (sample f32 re im)
+  back-end i s e f = e ∙ ap (backTo f32 m c (sample f32 re im)) f ∙ back-all f32 m c (sample f32 re im)
+
+-- the turns at an index of the samples
+pub turn-room : (m : ℕ) (found turns : List ℕ) (re im : List Float) → Samples m re im → Turns m found turns → (i : ℕ) → i < length re
+    → (i < length turns) × (i < length re) × (i < length im) × (at turns i < 4)
+turn-room m found turns re im s t i h =
+    let l : i < 2 ^ m = omega (arith, s .reals) in
+    (omega (arith, t .size, pow-mono {i = m} {j = 8} (s .high)), h, omega (arith, s .reals, s .imaginaries), turns-below m found turns t i l)

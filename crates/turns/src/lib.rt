@@ -1,0 +1,79 @@
+// The samples turned back by the quarter turns that the coefficients ask for, and their two sums, q = 4.
+use sums::Sums;
+ghost use mathlib.Core.Path.{_≡_};
+ghost use Prim.Native.Nat.{_<_, _≤_};
+ghost use lib.ListN.{length};
+ghost use Rattle.theory.specs.Sum.{at};
+ghost use Rattle.samples.specs.Numbers.{f32};
+ghost use Rattle.samples.specs.Complex.{sample, turnBack};
+ghost use Rattle.samples.specs.Soft.{constantSums};
+ghost use Rattle.sums.specs.Pair.{pair, complex};
+ghost use Rattle.sums.specs.Work.{Samples};
+ghost use Rattle.turns.specs.Work.{Coefficients, coefficientsIn, Turns};
+
+// The quarter turns that the coefficients in found ask for at each index: the word of found, whose constant is 0.
+pub fn quarter_turns(m: u32, found: &[u8], turns: &mut [u8])
+    requires { ⌜ (2 ≤ m) × (m ≤ 8) × Coefficients m (now found) × (length (now turns) ≡ 256) ⌝ }
+    ensures { λ _. ⌜ Turns m (now (found .entry)) (now (turns .exit)) ⌝ }
+{
+    codeword::write(4, m, found, turns);
+}
+
+// The sample (x, y) turned back by t quarter turns.
+fn turn_back(t: u8, x: f32, y: f32) -> Sums
+    ensures { λ r. ⌜ pair r ≡ turnBack f32 t (complex x y) ⌝ }
+{
+    match t {
+        0 => Sums { re: x, im: y },
+        1 => Sums { re: y, im: -x },
+        2 => Sums { re: -x, im: -y },
+        _ => Sums { re: -y, im: x },
+    }
+}
+
+// The same by a table of the four signed parts: there is no branch that the turns of many samples could mislead.
+fn turn_by_table(t: u8, x: f32, y: f32) -> Sums
+    requires { ⌜ t < 4 ⌝ }
+    ensures { λ r. ⌜ pair r ≡ turnBack f32 t (complex x y) ⌝ }
+{
+    let z = [x, y, -x, -y];
+    let i = t as usize;
+    Sums {
+        re: z[i],
+        im: z[(i + 1) & 3],
+    }
+}
+
+// The sample turned back in the way that suits few or many samples.
+fn turn(many: bool, t: u8, x: f32, y: f32) -> Sums
+    requires { ⌜ t < 4 ⌝ }
+    ensures { λ r. ⌜ pair r ≡ turnBack f32 t (complex x y) ⌝ }
+{
+    if many {
+        return turn_by_table(t, x, y);
+    }
+    turn_back(t, x, y)
+}
+
+// The sample at index i turned back by its quarter turns.
+fn turned(many: bool, i: usize, turns: &[u8], re: &[f32], im: &[f32]) -> Sums
+    requires { ⌜ (i < length (now turns)) × (i < length (now re)) × (i < length (now im)) × (at (now turns) i < 4) ⌝ }
+    ensures { λ r. ⌜ pair r ≡ turnBack f32 (at (now (turns .entry)) i) (sample f32 (now (re .entry)) (now (im .entry)) i) ⌝ }
+{
+    turn(many, turns[i], sums::part(re, i), sums::part(im, i))
+}
+
+// Both sums of all samples, each turned back by its quarter turns, upward: two at a time.
+pub fn constant_sums(m: u32, found: &[u8], turns: &[u8], re: &[f32], im: &[f32]) -> Sums
+    requires { ⌜ Samples m (now re) (now im) × Turns m (now found) (now turns) ⌝ }
+    ensures { λ r. ⌜ pair r ≡ constantSums f32 m (coefficientsIn (now (found .entry))) (sample f32 (now (re .entry)) (now (im .entry))) ⌝ }
+{
+    let mut all = Sums { re: 0.0, im: 0.0 };
+    let many = m > 4;
+    for b in 0..re.len() / 2 {
+        let i = 2 * b;
+        all = sums::add(all, turned(many, i, turns, re, im));
+        all = sums::add(all, turned(many, i + 1, turns, re, im));
+    }
+    all
+}
