@@ -17,7 +17,7 @@ use Rattle.theory.proofs.ModularLaws.{same-le}
 use Rattle.digits.specs.Digit.{digit}
 use Rattle.digits.proofs.DigitLaws.{digit-lt, digit-and, digit-add, add-lt, digit-times, times-lt}
 use Rattle.lanes.specs.Lane.{offset, Lanes, Below}
-use Rattle.lanes.proofs.LaneLaws.{lanes-are, mask-lane, spread-lanes}
+use Rattle.lanes.proofs.LaneLaws.{lanes-are, none-lanes, mask-lane, spread-lanes}
 use Rattle.leads.specs.Lead.{Mask}
 use Rattle.errors.specs.Places.{plain, zeroPlaces}
 
@@ -78,13 +78,6 @@ marks-2 = marks-are 2 0x1111_1111_0000_0000 refl
 pub marks-3 : Lanes 0x1010_1010_1010_1010 (λ t. bit 3 (offset t))
 unfolding every digit bit offset
 marks-3 = marks-are 3 0x1010_1010_1010_1010 refl
-
-pub none-lanes : Lanes 0 (λ t. 0)
-unfolding every digit
-none-lanes = lanes-are 0 (λ t. 0) refl
-
-pub none-below : (q : ℕ) → isAlphabet q ≡ true → Below q 0
-none-below q al t h = omega (arith, none-lanes t h, alphabet-positive q al)
 
 -- THE CODE, one coefficient after the other
 pub code-is : (q c0 c1 c2 c3 x0 x1 x2 x3 : ℕ)

@@ -20,12 +20,13 @@ use Rattle.theory.proofs.QuestionLaws.{alphabet-positive}
 use Rattle.theory.proofs.VoteLaws.{tally-own, residues-exact}
 use Rattle.theory.proofs.WinnerLaws as winner
 use Rattle.digits.specs.Digit.{digit}
-use Rattle.lanes.specs.Lane.{offset, Lanes, Below, Held, Ahead}
+use Rattle.lanes.specs.Lane.{offset, laneOf, Lanes, Below, Held, Ahead}
 use Rattle.lanes.specs.Ballot.{laneBit}
+use Rattle.lanes.proofs.LaneLaws.{lane-lt, lane-place}
 use Rattle.errors.specs.Places.{plain}
 use Rattle.sliced.specs.Most.{threeOf, sevenOf, fifteenOf}
 use Rattle.guess.specs.Guess.{Rest, Chosen, message, GuessOf, GuessOfBoth}
-use Rattle.guess.proofs.LaneVotes.{lane, lane-lt, lane-place, held-at, vote-at, openOf, allOf, open-is, all-is, open-4-0, open-4-1, open-8-0, open-8-1, open-8-2, open-16-0, open-16-1, open-16-2, open-16-3, all-8, all-halves, all-first}
+use Rattle.guess.proofs.LaneVotes.{held-at, vote-at, openOf, allOf, open-is, all-is, open-4-0, open-4-1, open-8-0, open-8-1, open-8-2, open-16-0, open-16-1, open-16-2, open-16-3, all-8, all-halves, all-first}
 
 -- the word of the coefficients of s
 plain-3 : (q c0 c1 c2 : ℕ) (s : ℕ → ℕ) → c0 ≡ s 1 → c1 ≡ s 2 → c2 ≡ s 3 → (i : ℕ) → plain q c0 c1 c2 0 i ≡ linear 3 (λ k. s (suc k)) i % q
@@ -42,10 +43,10 @@ plain-4 q c0 c1 c2 c3 s e0 e1 e2 e3 i =
 
 -- what is left at a place, in its lane
 residue-at : (q m x c0 c1 c2 c3 d : ℕ) (w : List ℕ) (s : ℕ → ℕ) → Rest q x c0 c1 c2 c3 d → Held w 0 x
-    → ((i : ℕ) → i < 16 → plain q c0 c1 c2 c3 i ≡ linear m (λ k. s (suc k)) i % q) → (j : ℕ) → j < 16 → digit 4 d (lane j) ≡ residue q m s (at w) j
+    → ((i : ℕ) → i < 16 → plain q c0 c1 c2 c3 i ≡ linear m (λ k. s (suc k)) i % q) → (j : ℕ) → j < 16 → digit 4 d (laneOf j) ≡ residue q m s (at w) j
 unfolding residue
 residue-at q m x c0 c1 c2 c3 d w s left held e j h =
-    left (lane j) (lane-lt j h)
+    left (laneOf j) (lane-lt j h)
     ∙ ap₂ (subMod q) (held-at w 0 x held j h ∙ ap (at w) (zero-add j)) (ap (plain q c0 c1 c2 c3) (lane-place j h) ∙ e j h)
     ∙ subMod-mod q (at w j) (linear m (λ k. s (suc k)) j)
 
@@ -63,10 +64,10 @@ unfolding sum bit ifClear
 low-32 f = omega arith
 
 -- a vote across two numbers
-across-at : (q x y d : ℕ) (w : List ℕ) → Held w 0 x → Held w 16 y → Lanes d (λ t. subMod q (digit 4 y t) (digit 4 x t)) → (j : ℕ) → j < 16 → digit 4 d (lane j) ≡ vote q 4 (at w) j
+across-at : (q x y d : ℕ) (w : List ℕ) → Held w 0 x → Held w 16 y → Lanes d (λ t. subMod q (digit 4 y t) (digit 4 x t)) → (j : ℕ) → j < 16 → digit 4 d (laneOf j) ≡ vote q 4 (at w) j
 unfolding vote
 across-at q x y d w held held′ e j h =
-    e (lane j) (lane-lt j h) ∙ ap₂ (subMod q) (held-at w 16 y held′ j h ∙ ap (at w) (add-comm 16 j)) (held-at w 0 x held j h ∙ ap (at w) (zero-add j))
+    e (laneOf j) (lane-lt j h) ∙ ap₂ (subMod q) (held-at w 16 y held′ j h ∙ ap (at w) (add-comm 16 j)) (held-at w 0 x held j h ∙ ap (at w) (zero-add j))
 
 -- what is left at the places: all but the wrong ones are the constant
 exactly : (q m : ℕ) (s y : ℕ → ℕ) → 0 < q → s 0 < q → ((i : ℕ) → i < 2 ^ m → y i < q) → sum (2 ^ m) (λ i. same (residue q m s y i) (s 0)) + distance q m s y ≡ 2 ^ m
@@ -75,7 +76,7 @@ exactly q m s y hq hs hy = residues-exact q m s y hq hs hy
 
 -- A NEAR MESSAGE s of a word w whose first places x holds
 module _ (q m x : ℕ) (al : isAlphabet q ≡ true) (s : ℕ → ℕ) (w : List ℕ) (hs : winner.Below q m s) (held : Held w 0 x) where
-  first-vote : (k d : ℕ) → k < 4 → Ahead q (2 ^ laneBit k) x d → (j : ℕ) → j < 16 → bit k j ≡ 0 → digit 4 d (lane j) ≡ vote q k (at w) j
+  first-vote : (k d : ℕ) → k < 4 → Ahead q (2 ^ laneBit k) x d → (j : ℕ) → j < 16 → bit k j ≡ 0 → digit 4 d (laneOf j) ≡ vote q k (at w) j
   first-vote k d h e j l z = vote-at q k x d w 0 h e held j l z ∙ ap (vote q k (at w)) (zero-add j)
 
   own : (k : ℕ) → k < m → 2 ^ m ≤ 2 * (sum (2 ^ m) (λ i. ifClear (bit k i) (same (vote q k (at w) i) (s (suc k)))) + distance q m s (at w))
@@ -87,7 +88,7 @@ module _ (q m x : ℕ) (al : isAlphabet q ≡ true) (s : ℕ → ℕ) (w : List 
   own-open k d h l n e = omega (arith, own k l, open-is (2 ^ m) k d (vote q k (at w)) n (first-vote k d h e) (s (suc k)))
 
   first-below : Below q x → (i : ℕ) → i < 16 → at w i < q
-  first-below b i h = omega (arith, held-at w 0 x held i h, ap (at w) (zero-add i), b (lane i) (lane-lt i h))
+  first-below b i h = omega (arith, held-at w 0 x held i h, ap (at w) (zero-add i), b (laneOf i) (lane-lt i h))
 
   -- and for the constant
   own-all : (c0 c1 c2 c3 d : ℕ) → Below q x → 2 ^ m ≤ 16 → Rest q x c0 c1 c2 c3 d
@@ -123,7 +124,7 @@ module _ (q m x : ℕ) (al : isAlphabet q ≡ true) (s : ℕ → ℕ) (w : List 
           all-is 16 d (vote q 4 (at w)) (omega arith) across (s 5),
         )
       where
-        across : (j : ℕ) → j < 16 → digit 4 d (lane j) ≡ vote q 4 (at w) j
+        across : (j : ℕ) → j < 16 → digit 4 d (laneOf j) ≡ vote q 4 (at w) j
         across j h = across-at q x y d w held held′ e j h
 
     -- and for the constant, of which the first sixteen are counted
@@ -148,7 +149,7 @@ module _ (q m x : ℕ) (al : isAlphabet q ≡ true) (s : ℕ → ℕ) (w : List 
             go (no l) =
                 let r : i - 16 < 16 = omega (arith, h, ap (λ z. 2 ^ z) five) in
                 let p : 16 + (i - 16) ≡ i = omega arith in
-                omega (arith, held-at w 16 y held′ (i - 16) r, ap (at w) p, b′ (lane (i - 16)) (lane-lt (i - 16) r))
+                omega (arith, held-at w 16 y held′ (i - 16) r, ap (at w) p, b′ (laneOf (i - 16)) (lane-lt (i - 16) r))
 
         exact : sum (2 ^ m) (λ i. same (residue q m s (at w) i) (s 0)) + distance q m s (at w) ≡ 2 ^ m
         exact = exactly q m s (at w) (alphabet-positive q al) (hs 0 (omega arith)) below

@@ -20,7 +20,7 @@ use Rattle.theory.proofs.QuestionLaws.{Alphabet, alphabet, alphabet-bounds, alp
 use Rattle.theory.proofs.EveryLaws.{every-at}
 use Rattle.digits.specs.Digit.{digit}
 use Rattle.digits.proofs.DigitLaws.{digit-lt, digit-and, digit-add, add-lt, digit-sub, sub-le, digit-times, digit-down}
-use Rattle.lanes.specs.Lane.{Lanes, Below, Ahead, ClearLanes, Blend}
+use Rattle.lanes.specs.Lane.{offset, laneOf, Lanes, Below, Ahead, ClearLanes, Blend}
 
 -- the lanes of a number that is written out, by one computed test
 pub lanes-are : (x : ℕ) (f : ℕ → ℕ) → every 16 (λ t. eqb (digit 4 x t) (f t)) ≡ true → Lanes x f
@@ -172,3 +172,24 @@ down-below q s x al hx b t h = go (decLt (s + t) 16)
 
 pub ahead-is : (q s x d : ℕ) → Lanes d (λ t. subMod q (digit 4 (x / 2 ^ (4 * s)) t) (digit 4 x t)) → Ahead q s x d
 ahead-is q s x d e t h = e t h ∙ ap (λ z. subMod q z (digit 4 x t)) (digit-down 4 x s t)
+
+-- no lane is anything
+pub none-lanes : Lanes 0 (λ t. 0)
+unfolding every digit
+none-lanes = lanes-are 0 (λ t. 0) refl
+
+pub none-below : (q : ℕ) → isAlphabet q ≡ true → Below q 0
+none-below q al t h = omega (arith, none-lanes t h, alphabet-positive q al)
+
+-- the lane of a place, and the place of a lane
+pub lane-lt : (i : ℕ) → i < 16 → laneOf i < 16
+unfolding laneOf
+lane-lt i h = omega arith
+
+pub lane-place : (i : ℕ) → i < 16 → offset (laneOf i) ≡ i
+unfolding laneOf offset
+lane-place i h = omega arith
+
+pub place-lane : (t : ℕ) → t < 16 → laneOf (offset t) ≡ t
+unfolding laneOf offset
+place-lane t h = omega arith

@@ -12,6 +12,10 @@ use Rattle.digits.specs.Digit.{digit}
 unfoldable pub offset : ℕ → ℕ
 offset t = 8 * (t % 2) + t / 2
 
+-- the lane of place i among the sixteen
+unfoldable pub laneOf : ℕ → ℕ
+laneOf i = 2 * (i % 8) + i / 8
+
 -- the sixteen lanes of d are f 0 to f 15
 abbrev pub Lanes : ℕ → (ℕ → ℕ) → Type 0
 Lanes d f = (t : ℕ) → t < 16 → digit 4 d t ≡ f t

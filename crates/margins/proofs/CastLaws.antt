@@ -14,15 +14,15 @@ use Rattle.theory.specs.Modular.{subMod, same}
 use Rattle.theory.specs.Vote.{count, vote, votes}
 use Rattle.theory.specs.Question.{isAlphabet}
 use Rattle.theory.proofs.SumLaws.{sum-ext, sum-add, sum-const, sum-split}
-use Rattle.theory.proofs.IndexLaws.{bit-low, partner-lt}
+use Rattle.theory.proofs.IndexLaws.{bit-low, partner-lt, second-low, second-set}
 use Rattle.theory.proofs.EveryLaws.{every-at}
 use Rattle.theory.proofs.ModularLaws.{subMod-lt, subMod-is, same-ne}
 use Rattle.theory.proofs.QuestionLaws.{alphabet, alphabet-bounds, alphabet-positive}
 use Rattle.digits.specs.Digit.{digit}
 use Rattle.digits.proofs.DigitLaws.{digit-down}
-use Rattle.lanes.specs.Lane.{offset, Lanes, Below, Ahead}
+use Rattle.lanes.specs.Lane.{offset, laneOf, Lanes, Below, Ahead}
 use Rattle.lanes.specs.Ballot.{laneBit}
-use Rattle.lanes.proofs.LaneLaws.{lanes-are}
+use Rattle.lanes.proofs.LaneLaws.{lanes-are, place-lane}
 use Rattle.lanes.proofs.SpotLaws.{lane-up, offset-sum}
 use Rattle.leads.specs.Lead.{marked, Mask}
 use Rattle.margins.specs.Margins.{placeOf, placesOf, aheadAt, castBy, bothVotes}
@@ -43,9 +43,9 @@ unfolding marked castBy
 marked-cast q s c f h d e ld le v = sum-ext 16 _ _ (λ t l. ap₂ (λ x y. digit 4 c t * (same x v + same y v)) (ld t l) (le t l))
 
 -- THE PLACES of the lanes
-place-lane : (x t : ℕ) → t < 16 → placeOf x (offset t) ≡ digit 4 x t
-unfolding placeOf offset
-place-lane x t h = ap (digit 4 x) (omega arith)
+pub at-lane : (x t : ℕ) → t < 16 → placeOf x (offset t) ≡ digit 4 x t
+unfolding placeOf
+at-lane x t h = ap (digit 4 x) (place-lane t h)
 
 -- bit k of a lane's place
 tested : every 4 (λ k. every 16 (λ t. eqb (bit k (offset t)) (bit (laneBit k) t))) ≡ true
@@ -63,7 +63,7 @@ module _ (q k c : ℕ) (hk : k < 4) (m : Lanes c (λ t. ifClear (bit k (offset t
   unfolding aheadAt vote
   vote-lane x t h z =
       let (l, e) = lane-up k t hk h (sym (bit-lane k t hk h) ∙ z) in
-      ap₂ (subMod q) (ap (digit 4 x) (add-comm (2 ^ laneBit k) t) ∙ sym (place-lane x (t + 2 ^ laneBit k) l) ∙ ap (placeOf x) e) (sym (place-lane x t h))
+      ap₂ (subMod q) (ap (digit 4 x) (add-comm (2 ^ laneBit k) t) ∙ sym (at-lane x (t + 2 ^ laneBit k) l) ∙ ap (placeOf x) e) (sym (at-lane x t h))
 
   one-lane : (x v t : ℕ) → t < 16 → digit 4 c t * same (aheadAt q (2 ^ laneBit k) x t) v ≡ ifClear (bit k (offset t)) (same (vote q k (placeOf x) (offset t)) v)
   unfolding ifClear
@@ -126,11 +126,7 @@ polls-3 = polls 3 0x0101_0101_0101_0101 (omega arith) (omega arith) refl
 -- NO ERRORS, no wrong votes
 no-place : (i : ℕ) → placeOf 0 i ≡ 0
 unfolding placeOf digit
-no-place i = ap (λ z. z % 2 ^ 4) (zero-div (2 ^ (4 * (2 * (i % 8) + i / 8))))
-
-pub none-below : (q : ℕ) → isAlphabet q ≡ true → Below q 0
-unfolding digit
-none-below q a t h = omega (arith, zero-div (2 ^ (4 * t)), alphabet-positive q a)
+no-place i = ap (λ z. z % 2 ^ 4) (zero-div (2 ^ (4 * laneOf i)))
 
 no-votes : (q k v : ℕ) → 0 < q → 1 ≤ v → votes q 4 k (placeOf 0) v ≡ 0
 unfolding votes count ifClear vote
@@ -148,22 +144,13 @@ unfolding bothVotes
 both-none q k f hq v hv = omega (arith, no-votes q k v hq hv)
 
 -- THE PLACES OF TWO NUMBERS
-first-places : (f h i : ℕ) → i < 16 → placesOf f h i ≡ placeOf f i
+pub first-places : (f h i : ℕ) → i < 16 → placesOf f h i ≡ placeOf f i
 unfolding placesOf
 first-places f h i l = ap (λ z. cond z (placeOf f i) (placeOf h (i - 16))) (lt-ltb i 16 l)
 
-second-places : (f h i j : ℕ) → i ≡ 16 + j → placesOf f h i ≡ placeOf h j
+pub second-places : (f h i j : ℕ) → i ≡ 16 + j → placesOf f h i ≡ placeOf h j
 unfolding placesOf
 second-places f h i j e = ap (λ z. cond z (placeOf f i) (placeOf h (i - 16))) (le-ltb i 16 (omega (arith, e))) ∙ ap (placeOf h) (omega (arith, e))
-
--- bit k of the second sixteen
-tested-second : every 4 (λ k. every 16 (λ i. eqb (bit k (16 + i)) (bit k i))) ≡ true
-unfolding every bit
-tested-second = refl
-
-bit-second : (k i : ℕ) → k < 4 → i < 16 → bit k (16 + i) ≡ bit k i
-bit-second k i hk hi =
-    eqb-true _ _ (every-at 16 (λ i. eqb (bit k (16 + i)) (bit k i)) (every-at 4 (λ k. every 16 (λ i. eqb (bit k (16 + i)) (bit k i))) tested-second k hk) i hi)
 
 -- the coefficients 0 to 3: each number casts its own votes
 pub votes-both : (q k f h : ℕ) → k < 4 → (v : ℕ) → votes q 5 k (placesOf f h) v ≡ bothVotes q k f h v
@@ -172,7 +159,7 @@ votes-both q k f h hk v =
     sum-split 16 16 (λ i. ifClear (bit k i) (same (vote q k (placesOf f h) i) v))
     ∙ ap₂ (λ x y. x + y)
     (sum-ext 16 _ _ (λ i l. low i l (bit k i) refl))
-    (sum-ext 16 _ _ (λ i l. ap (λ b. ifClear b (same (vote q k (placesOf f h) (16 + i)) v)) (bit-second k i hk l) ∙ high i l (bit k i)))
+    (sum-ext 16 _ _ (λ i l. ap (λ b. ifClear b (same (vote q k (placesOf f h) (16 + i)) v)) (second-low k i hk) ∙ high i l (bit k i)))
   where
     low : (i : ℕ) → i < 16 → (b : ℕ) → bit k i ≡ b → ifClear b (same (vote q k (placesOf f h) i) v) ≡ ifClear b (same (vote q k (placeOf f) i) v)
     low i l zero z = ap₂ (λ x y. same (subMod q x y) v) (first-places f h (i + 2 ^ k) (partner-lt k 4 i hk l z)) (first-places f h i l)
@@ -182,11 +169,6 @@ votes-both q k f h hk v =
     high i l zero = ap₂ (λ x y. same (subMod q x y) v) (second-places f h (16 + i + 2 ^ k) (i + 2 ^ k) (omega arith)) (second-places f h (16 + i) i refl)
     high i l (suc b) = refl
 
--- bit 4 of the second sixteen
-set-bit : (i : ℕ) → i < 16 → bit 4 (16 + i) ≡ 1
-unfolding bit
-set-bit i l = omega arith
-
 -- coefficient 4: one number's places are the partners of the other's
 pub votes-last : (q f h v : ℕ) → votes q 5 4 (placesOf f h) v ≡ sum 16 (λ t. same (subMod q (digit 4 h t) (digit 4 f t)) v)
 unfolding votes count vote ifClear
@@ -194,10 +176,10 @@ votes-last q f h v =
     sum-split 16 16 (λ i. ifClear (bit 4 i) (same (vote q 4 (placesOf f h) i) v))
     ∙ ap₂ (λ x y. x + y)
     (sum-ext 16 _ (λ i. same (subMod q (placeOf h i) (placeOf f i)) v) (λ i l. ap (λ b. ifClear b (same (vote q 4 (placesOf f h) i) v)) (bit-low 4 i l) ∙ low i l))
-    (sum-ext 16 _ (λ i. 0) (λ i l. ap (λ b. ifClear b (same (vote q 4 (placesOf f h) (16 + i)) v)) (set-bit i l)))
+    (sum-ext 16 _ (λ i. 0) (λ i l. ap (λ b. ifClear b (same (vote q 4 (placesOf f h) (16 + i)) v)) (second-set i l)))
     ∙ drop _ _ (sum-const 16 0)
     ∙ sym (offset-sum (λ i. same (subMod q (placeOf h i) (placeOf f i)) v))
-    ∙ sum-ext 16 _ _ (λ t l. ap₂ (λ x y. same (subMod q x y) v) (place-lane h t l) (place-lane f t l))
+    ∙ sum-ext 16 _ _ (λ t l. ap₂ (λ x y. same (subMod q x y) v) (at-lane h t l) (at-lane f t l))
   where
     drop : (a b : ℕ) → b ≡ 0 → a + b ≡ a
     drop a b e = omega arith

@@ -7,35 +7,20 @@ use Rattle.theory.specs.Modular.{subMod}
 use Rattle.theory.specs.Vote.{votes}
 use Rattle.theory.specs.Margin.{lead, least}
 use Rattle.theory.specs.Question.{isAlphabet}
-use Rattle.theory.proofs.QuestionLaws.{alphabet, alphabet-bounds, alphabet-positive}
+use Rattle.theory.proofs.QuestionLaws.{alphabet-positive}
 use Rattle.theory.proofs.MarginLaws.{least-ext}
-use Rattle.theory.proofs.ErrorLaws.{sumFrom1, maxFrom1, lead-zero}
+use Rattle.theory.proofs.ErrorLaws.{sumFrom1, maxFrom1, sumFrom1-ext, maxFrom1-ext, lead-zero}
 use Rattle.digits.specs.Digit.{digit}
+use Rattle.tally.proofs.CountLaws.{bounds}
 use Rattle.lanes.specs.Lane.{Lanes, Below}
-use Rattle.lanes.proofs.LaneLaws.{less-below}
+use Rattle.lanes.proofs.LaneLaws.{less-below, down-below, none-below}
 use Rattle.leads.specs.Lead.{marked, Marked}
 use Rattle.margins.specs.Margins.{placeOf, placesOf, aheadAt, castBy, bothVotes, leadBy, Marks, Errors}
-use Rattle.lanes.proofs.LaneLaws.{down-below}
-use Rattle.margins.proofs.CastLaws.{Polls, polls-3, ahead-eight, marked-cast, marked-last, none-below, both-none, votes-both}
-
--- sums and maxima of equal terms
-pub sumFrom1-ext : (n : ℕ) (f g : ℕ → ℕ) → ((v : ℕ) → 1 ≤ v → f v ≡ g v) → sumFrom1 n f ≡ sumFrom1 n g
-unfolding sumFrom1
-sumFrom1-ext zero f g h = refl
-sumFrom1-ext (suc n) f g h = ap₂ (λ x y. x + y) (sumFrom1-ext n f g h) (h (suc n) (omega arith))
-
-pub maxFrom1-ext : (n : ℕ) (f g : ℕ → ℕ) → ((v : ℕ) → 1 ≤ v → f v ≡ g v) → maxFrom1 n f ≡ maxFrom1 n g
-unfolding maxFrom1
-maxFrom1-ext zero f g h = refl
-maxFrom1-ext (suc n) f g h = ap₂ max (maxFrom1-ext n f g h) (h (suc n) (omega arith))
+use Rattle.margins.proofs.CastLaws.{Polls, polls-3, ahead-eight, marked-cast, marked-last, both-none, votes-both}
 
 pub leadBy-ext : (q half : ℕ) (f g : ℕ → ℕ) → ((v : ℕ) → 1 ≤ v → f v ≡ g v) → leadBy q half f ≡ leadBy q half g
 unfolding leadBy
 leadBy-ext q half f g h = ap₂ (λ x y. half - x - y) (sumFrom1-ext (q - 1) f g h) (maxFrom1-ext (q - 1) f g h)
-
--- the alphabet's bounds as code needs them
-pub size : (q : ℕ) → isAlphabet q ≡ true → (2 ≤ q) × (q ≤ 8)
-size q a = alphabet-bounds q (alphabet q a)
 
 -- FEW WRONG VOTES stay few where the votes are equal
 pub few-same : (q half : ℕ) (f g : ℕ → ℕ) → ((v : ℕ) → 1 ≤ v → f v ≡ g v) → 2 * sumFrom1 (q - 1) g ≤ half → 2 * sumFrom1 (q - 1) f ≤ half
@@ -64,8 +49,8 @@ module _ (q f h d : ℕ) (a : isAlphabet q ≡ true) (ld : Lanes d (λ t. subMod
 
   pub last-marked : d < 18446744073709551616 → Marked d (d / 2 ^ 4) 0x0101_0101_0101_0101
   last-marked hd = record {
-    first = λ t i. omega (arith, last-below t i, size q a);
-    second = λ t i. omega (arith, down-below q 1 d a hd last-below t i, size q a);
+    first = λ t i. omega (arith, last-below t i, bounds q a);
+    second = λ t i. omega (arith, down-below q 1 d a hd last-below t i, bounds q a);
     mask = polls-3 .mask;
   }
 

@@ -9,12 +9,12 @@ use Rattle.theory.specs.Vote.{votes}
 use Rattle.theory.specs.Question.{isAlphabet}
 use Rattle.theory.proofs.ErrorLaws.{sumFrom1, maxFrom1}
 use Rattle.digits.specs.Digit.{digit}
-use Rattle.lanes.specs.Lane.{Below}
+use Rattle.lanes.specs.Lane.{laneOf, Below}
 use Rattle.leads.specs.Lead.{Mask}
 
 -- place i of the sixteen that f holds
 unfoldable pub placeOf : ℕ → ℕ → ℕ
-placeOf f i = digit 4 f (2 * (i % 8) + i / 8)
+placeOf f i = digit 4 f (laneOf i)
 
 -- place i of the 32 that f and h hold
 unfoldable pub placesOf : ℕ → ℕ → ℕ → ℕ

@@ -16,16 +16,17 @@ use Rattle.theory.specs.Vote.{votes}
 use Rattle.theory.specs.Margin.{lead, least, margin}
 use Rattle.theory.specs.Nearest.{isReadable, nearMessage, nearDistance, nearMargin}
 use Rattle.theory.proofs.CodeLaws.{distance-ext, distance-le}
+use Rattle.theory.proofs.VoteLaws.{votes-ext}
 use Rattle.theory.proofs.WinnerLaws.{Below}
 use Rattle.theory.proofs.MarginLaws.{margin-ext}
 use Rattle.theory.proofs.NearestLaws.{Reads, only-read}
-use Rattle.theory.proofs.ErrorLaws.{error, sumFrom1, margin-few, bad-le}
+use Rattle.theory.proofs.ErrorLaws.{error, sumFrom1, sumFrom1-ext, margin-few, bad-le}
 use Rattle.tally.specs.Received.{Received}
 use Rattle.tally.proofs.CountLaws.{bounds}
 use Rattle.guess.specs.Guess.{message, Guessed}
 use Rattle.trial.specs.Trial.{Tries}
 use Rattle.trial.proofs.TrialLaws.{symbols-below}
-use Rattle.short.proofs.MarginLaws.{sumFrom1-ext, votes-ext, margin-errors}
+use Rattle.short.proofs.MarginLaws.{margin-errors}
 use Rattle.short.specs.Settled.{Settled, Front}
 
 module _ (q m : ℕ) (w d : List ℕ) (wrong : ℕ) (size : suc m ≤ length d) (below : Below q m (at d))
@@ -50,17 +51,15 @@ module _ (q m : ℕ) (w d : List ℕ) (wrong : ℕ) (size : suc m ≤ length d) 
   pub settled : (s₀ s : List ℕ) (least : ℕ) → wrong ≤ 256 → (4 * wrong < 2 ^ m → (s ≡ take (suc m) d) × (least ≡ margin q m (at d) (at w)))
       → (2 ^ m ≤ 4 * wrong → s ≡ s₀) → Settled q m w s₀ s wrong least
   unfolding nearDistance nearMargin
-  settled s₀ s least few read doubt = record { few = few; near = near; far = far }
-    where
-      near : 4 * wrong < 2 ^ m → (isReadable q m w ≡ true) × (nearMessage q m w ≡ s) × (nearDistance q m w ≡ wrong) × (nearMargin q m w ≡ least)
-      near l =
-          let n : Near q m (at t) (at w) = omega (arith, its-distance) in
-          let (a, b) = reads .near n in
-          let (f, g) = read l in
-          (a, b ∙ sym f, ap (λ x. distance q m (at x) (at w)) b ∙ sym its-distance, ap (λ x. margin q m (at x) (at w)) b ∙ sym (margin-ext q m (at d) (at t) (at w) same) ∙ sym g)
-
-      far : 2 ^ m ≤ 4 * wrong → (isReadable q m w ≡ false) × (s ≡ s₀)
-      far l = (reads .far (λ n. absurd (omega (arith, its-distance, n))), doubt l)
+  settled s₀ s least few read doubt = record {
+    few = few;
+    near = λ l.
+        let n : Near q m (at t) (at w) = omega (arith, its-distance) in
+        let (a, b) = reads .near n in
+        let (f, g) = read l in
+        (a, b ∙ sym f, ap (λ x. distance q m (at x) (at w)) b ∙ sym its-distance, ap (λ x. margin q m (at x) (at w)) b ∙ sym (margin-ext q m (at d) (at t) (at w) same) ∙ sym g);
+    far = λ l. (reads .far (λ n. absurd (omega (arith, its-distance, n))), doubt l);
+  }
 
 -- A MESSAGE WRITTEN symbol by symbol
 pub front-all : (n : ℕ) (d s₀ s : List ℕ) → n ≤ length d → length s₀ ≡ n → Front n d s₀ s → s ≡ take n d
@@ -129,7 +128,7 @@ module _ (q n : ℕ) (w d : List ℕ) (wrong : ℕ) (place : ℕ → ℕ) (r : R
         arith,
         t .distance,
         bad-le q m k (at d) (at w) some l (in-range (suc k) (omega arith)),
-        sumFrom1-ext (q - 1) (votes q m k place) (votes q m k (error q m (at d) (at w))) (votes-ext q m k place (error q m (at d) (at w)) l (t .errors)),
+        sumFrom1-ext (q - 1) (votes q m k place) (votes q m k (error q m (at d) (at w))) (λ v _. votes-ext q m k place (error q m (at d) (at w)) l (t .errors) v),
       )
 
 -- the symbols guessed fit a byte

@@ -125,3 +125,16 @@ block-room (suc k) (suc m) j h l = omega (arith, high-part k j (j / 2) refl, blo
 pub nth-partner-lt : (k m j : ℕ) → k ≤ m → j < 2 ^ m → nthClear k j + 2 ^ k < 2 ^ suc m
 unfolding nthClear
 nth-partner-lt k m j h l = omega (arith, block-room k m j h l)
+
+-- the second sixteen indices have the low bits of the first, and bit 4
+pub second-low : (k i : ℕ) → k < 4 → bit k (16 + i) ≡ bit k i
+unfolding bit
+second-low zero i h = omega arith
+second-low (suc zero) i h = omega arith
+second-low (suc (suc zero)) i h = omega arith
+second-low (suc (suc (suc zero))) i h = omega arith
+second-low (suc (suc (suc (suc k)))) i h = absurd (omega arith)
+
+pub second-set : (i : ℕ) → i < 16 → bit 4 (16 + i) ≡ 1
+unfolding bit
+second-set i h = omega arith

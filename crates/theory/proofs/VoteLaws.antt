@@ -12,7 +12,7 @@ use Rattle.theory.specs.Code.{linear, symbolAt}
 use Rattle.theory.specs.Near.{distance}
 use Rattle.theory.specs.Vote.{count, vote, votes, residue, residues, tally}
 use Rattle.theory.proofs.SumLaws.{sum-ext, sum-le, sum-add, sum-const}
-use Rattle.theory.proofs.IndexLaws.{pairing, half-clear}
+use Rattle.theory.proofs.IndexLaws.{pairing, half-clear, partner-lt}
 use Rattle.theory.proofs.ModularLaws.{same-eq, same-ne, same-le, differ-eq, differ-ne, subMod-add, subMod-mod, add-subMod}
 use Rattle.theory.proofs.CodeLaws.{linear-partner, linear-ext}
 
@@ -114,6 +114,15 @@ module _ (q m : ℕ) (s y : ℕ → ℕ) (hq : 0 < q) where
 pub count-ext : (n : ℕ) (closed cast cast′ : ℕ → ℕ) → ((i : ℕ) → i < n → cast i ≡ cast′ i) → (v : ℕ) → count n closed cast v ≡ count n closed cast′ v
 unfolding count
 count-ext n closed cast cast′ h v = sum-ext n _ _ (λ i l. ap (λ x. ifClear (closed i) (same x v)) (h i l))
+
+-- the votes for a coefficient hang on the places of the word alone
+pub votes-ext : (q m k : ℕ) (x y : ℕ → ℕ) → k < m → ((i : ℕ) → i < 2 ^ m → x i ≡ y i) → (v : ℕ) → votes q m k x v ≡ votes q m k y v
+unfolding votes count vote ifClear
+votes-ext q m k x y h e v = sum-ext (2 ^ m) _ _ (λ i l. place i l (bit k i) refl)
+  where
+    place : (i : ℕ) → i < 2 ^ m → (b : ℕ) → bit k i ≡ b → ifClear (bit k i) (same (subMod q (x (i + 2 ^ k)) (x i)) v) ≡ ifClear (bit k i) (same (subMod q (y (i + 2 ^ k)) (y i)) v)
+    place i l zero z = ap (ifClear (bit k i)) (ap₂ (λ a b. same (subMod q a b) v) (e (i + 2 ^ k) (partner-lt k m i h l z)) (e i l))
+    place i l (suc b) z = ap (λ c. ifClear c (same (subMod q (x (i + 2 ^ k)) (x i)) v)) z ∙ sym (ap (λ c. ifClear c (same (subMod q (y (i + 2 ^ k)) (y i)) v)) z)
 
 -- the votes hang on the coefficients alone
 pub tally-ext : (q m : ℕ) (s t y : ℕ → ℕ) → ((k : ℕ) → k < m → s (suc k) ≡ t (suc k)) → (k v : ℕ) → tally q m s y k v ≡ tally q m t y k v

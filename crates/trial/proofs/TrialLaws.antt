@@ -19,18 +19,20 @@ use Rattle.theory.specs.Near.{distance}
 use Rattle.theory.specs.Question.{isAlphabet}
 use Rattle.theory.proofs.SumLaws.{sum-ext, sum-split}
 use Rattle.theory.proofs.EveryLaws.{every-at}
-use Rattle.theory.proofs.IndexLaws.{bit-low}
+use Rattle.theory.proofs.IndexLaws.{bit-low, second-low, second-set}
 use Rattle.theory.proofs.CodeLaws.{linear-ext}
 use Rattle.theory.proofs.ModularLaws.{subMod-lt}
 use Rattle.theory.proofs.ErrorLaws.{error, error-distance}
 use Rattle.digits.specs.Digit.{digit}
-use Rattle.lanes.specs.Lane.{offset, Lanes, Below, Held, Low}
+use Rattle.lanes.specs.Lane.{offset, laneOf, Lanes, Below, Held, Low}
 use Rattle.tally.specs.Received.{Received}
 use Rattle.tally.proofs.CountLaws.{bounds}
 use Rattle.leads.specs.Lead.{Mask}
 use Rattle.errors.specs.Places.{plain, zeroPlaces}
 use Rattle.guess.specs.Guess.{message, Guessed, GuessOf, GuessOfBoth}
 use Rattle.margins.specs.Margins.{placeOf, placesOf}
+use Rattle.margins.proofs.CastLaws.{at-lane, first-places, second-places}
+use Rattle.lanes.proofs.LaneLaws.{lane-lt, lane-place}
 use Rattle.trial.specs.Trial.{Left, Tries}
 use Rattle.trial.proofs.PlaceLaws.{past, left, first-four, first-eight, second-eight}
 
@@ -66,29 +68,17 @@ unfolding symbolAt
 symbol-low q m n s i h l = ap (λ z. (s 0 + z) % q) (linear-low m n (λ k. s (suc k)) i h l)
 
 -- the fifth coefficient is in every place of the second sixteen
-high-bit : (k i : ℕ) → k < 4 → bit k (16 + i) ≡ bit k i
-unfolding bit
-high-bit zero i h = omega arith
-high-bit (suc zero) i h = omega arith
-high-bit (suc (suc zero)) i h = omega arith
-high-bit (suc (suc (suc zero))) i h = omega arith
-high-bit (suc (suc (suc (suc k)))) i h = absurd (omega arith)
-
-fifth-bit : (i : ℕ) → i < 16 → bit 4 (16 + i) ≡ 1
-unfolding bit
-fifth-bit i h = omega arith
-
 pub symbol-high : (q : ℕ) (a c0 c1 c2 c3 c4 i : ℕ) → i < 16 → symbolAt q 5 (at (message a c0 c1 c2 c3 c4)) (16 + i) ≡ symbolAt q 4 (at (message ((a + c4) % q) c0 c1 c2 c3 0)) i
 unfolding symbolAt linear sum message
 symbol-high q a c0 c1 c2 c3 c4 i h =
     ap (λ z. (a + (z + c4 * bit 4 (16 + i))) % q) lows
-    ∙ ap (λ z. (a + (((((0 + c0 * bit 0 i) + c1 * bit 1 i) + c2 * bit 2 i) + c3 * bit 3 i) + c4 * z)) % q) (fifth-bit i h)
+    ∙ ap (λ z. (a + (((((0 + c0 * bit 0 i) + c1 * bit 1 i) + c2 * bit 2 i) + c3 * bit 3 i) + c4 * z)) % q) (second-set i h)
     ∙ ap (λ z. z % q) (shift a (((((0 + c0 * bit 0 i) + c1 * bit 1 i) + c2 * bit 2 i) + c3 * bit 3 i)) c4)
     ∙ sym (mod-add-mod (a + c4) q (((((0 + c0 * bit 0 i) + c1 * bit 1 i) + c2 * bit 2 i) + c3 * bit 3 i)))
   where
     lows : ((((0 + c0 * bit 0 (16 + i)) + c1 * bit 1 (16 + i)) + c2 * bit 2 (16 + i)) + c3 * bit 3 (16 + i)) ≡ ((((0 + c0 * bit 0 i) + c1 * bit 1 i) + c2 * bit 2 i) + c3 * bit 3 i)
     lows =
-        ap₂ (λ x y. x + y) (ap₂ (λ x y. x + y) (ap₂ (λ x y. x + y) (ap (λ z. 0 + c0 * z) (high-bit 0 i (omega arith))) (ap (λ z. c1 * z) (high-bit 1 i (omega arith)))) (ap (λ z. c2 * z) (high-bit 2 i (omega arith)))) (ap (λ z. c3 * z) (high-bit 3 i (omega arith)))
+        ap₂ (λ x y. x + y) (ap₂ (λ x y. x + y) (ap₂ (λ x y. x + y) (ap (λ z. 0 + c0 * z) (second-low 0 i (omega arith))) (ap (λ z. c1 * z) (second-low 1 i (omega arith)))) (ap (λ z. c2 * z) (second-low 2 i (omega arith)))) (ap (λ z. c3 * z) (second-low 3 i (omega arith)))
 
     shift : (a l c : ℕ) → a + (l + c * 1) ≡ a + c + l
     shift a l c = omega arith
@@ -98,36 +88,16 @@ first-four-same : (q a c0 c1 c2 c3 c4 i : ℕ) → symbolAt q 4 (at (message a c
 unfolding symbolAt linear sum message
 first-four-same q a c0 c1 c2 c3 c4 i = refl
 
--- the lane of a place, and the place of a lane
-lane-place : (i : ℕ) → i < 16 → offset (2 * (i % 8) + i / 8) ≡ i
-unfolding offset
-lane-place i h = omega arith
-
-lane-lt : (i : ℕ) → i < 16 → 2 * (i % 8) + i / 8 < 16
-lane-lt i h = omega arith
-
 pub place-lanes : (e : ℕ) → Lanes e (λ t. placeOf e (offset t))
-unfolding placeOf offset
-place-lanes e t h = ap (digit 4 e) back
-  where
-    back : t ≡ 2 * ((8 * (t % 2) + t / 2) % 8) + (8 * (t % 2) + t / 2) / 8
-    back = omega arith
-
-pub places-low : (f h i : ℕ) → i < 16 → placesOf f h i ≡ placeOf f i
-unfolding placesOf
-places-low f h i l = ap (λ b. cond b (placeOf f i) (placeOf h (i - 16))) (lt-ltb i 16 l)
-
-pub places-high : (f h i : ℕ) → placesOf f h (16 + i) ≡ placeOf h i
-unfolding placesOf
-places-high f h i = ap (λ b. cond b (placeOf f (16 + i)) (placeOf h (16 + i - 16))) (le-ltb (16 + i) 16 (omega arith)) ∙ ap (placeOf h) (let e : 16 + i - 16 ≡ i = omega arith in e)
+place-lanes e t h = sym (at-lane e t h)
 
 -- the error of a place that x holds from place b on
 place-left : (q x a c0 c1 c2 c3 e b : ℕ) (w : List ℕ) → Held w b x → Left q x a c0 c1 c2 c3 e → (i : ℕ) → i < 16
     → placeOf e i ≡ subMod q (at w (b + i)) (symbolAt q 4 (at (message a c0 c1 c2 c3 0)) i)
 unfolding placeOf
 place-left q x a c0 c1 c2 c3 e b w h l i k =
-    l (2 * (i % 8) + i / 8) (lane-lt i k)
-    ∙ ap₂ (subMod q) (h (2 * (i % 8) + i / 8) (lane-lt i k) ∙ ap (λ z. at w (b + z)) (lane-place i k)) (ap (symbolAt q 4 (at (message a c0 c1 c2 c3 0))) (lane-place i k))
+    l (laneOf i) (lane-lt i k)
+    ∙ ap₂ (subMod q) (h (laneOf i) (lane-lt i k) ∙ ap (λ z. at w (b + z)) (lane-place i k)) (ap (symbolAt q 4 (at (message a c0 c1 c2 c3 0))) (lane-place i k))
 
 -- THE MARKS of the first four, of the first eight and of the second eight places
 marks-by : (c : ℕ) → every 16 (λ t. leb (digit 4 c t) 1) ≡ true → Mask c
@@ -219,13 +189,13 @@ module _ (q : ℕ) (w : List ℕ) (r : Received q 5 w) (x y a c0 c1 c2 c3 c4 b e
   low-error : (i : ℕ) → i < 16 → placesOf e f i ≡ error q 5 (at g) (at w) i
   unfolding error
   low-error i h =
-      places-low e f i h ∙ place-left q x a c0 c1 c2 c3 e 0 w hx l i h
+      first-places e f i h ∙ place-left q x a c0 c1 c2 c3 e 0 w hx l i h
       ∙ ap₂ (subMod q) (ap (at w) (zero-add i)) (first-four-same q a c0 c1 c2 c3 c4 i ∙ sym (symbol-low q 4 5 (at g) i (omega arith) h))
 
   high-error : (i : ℕ) → i < 16 → placesOf e f (16 + i) ≡ error q 5 (at g) (at w) (16 + i)
   unfolding error
   high-error i h =
-      places-high e f i ∙ place-left q y b c0 c1 c2 c3 f 16 w hy k i h
+      second-places e f (16 + i) i refl ∙ place-left q y b c0 c1 c2 c3 f 16 w hy k i h
       ∙ ap (subMod q (at w (16 + i))) (ap (λ z. symbolAt q 4 (at (message z c0 c1 c2 c3 0)) i) eb ∙ sym (symbol-high q a c0 c1 c2 c3 c4 i h))
 
   both-errors : (i : ℕ) → i < 2 ^ 5 → placesOf e f i ≡ error q 5 (at g) (at w) i
@@ -237,7 +207,7 @@ module _ (q : ℕ) (w : List ℕ) (r : Received q 5 w) (x y a c0 c1 c2 c3 c4 b e
 
   both-distance : sum 16 (λ i. differ 0 (placeOf e i)) + sum 16 (λ i. differ 0 (placeOf f i)) ≡ distance q 5 (at g) (at w)
   both-distance =
-      ap₂ (λ x y. x + y) (sum-ext 16 _ _ (λ i h. ap (differ 0) (sym (places-low e f i h)))) (sum-ext 16 _ _ (λ i h. ap (differ 0) (sym (places-high e f i))))
+      ap₂ (λ x y. x + y) (sum-ext 16 _ _ (λ i h. ap (differ 0) (sym (first-places e f i h)))) (sum-ext 16 _ _ (λ i h. ap (differ 0) (sym (second-places e f (16 + i) i refl))))
       ∙ sym (sum-split 16 16 (λ i. differ 0 (placesOf e f i)))
       ∙ sum-ext 32 _ _ (λ i h. ap (differ 0) (both-errors i h)) ∙ sym (error-distance q 5 (at g) (at w) enough (r .symbols .below))
 

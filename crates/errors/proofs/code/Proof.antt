@@ -1,6 +1,7 @@
 -- `code` meets its contract: one coefficient after the other, each where its bit of the place is 1.
 use borrow.Author.Needs.{needs}
-use Rattle.errors.proofs.PlaceLaws.{none-below, plus-below, marks, marks-0, marks-1, marks-2, marks-3, code-is}
+use Rattle.lanes.proofs.LaneLaws.{none-below}
+use Rattle.errors.proofs.PlaceLaws.{plus-below, marks, marks-0, marks-1, marks-2, marks-3, code-is}
 use Rattle.errors.proofs.code.Statement.{statement}
 use Rattle.errors.proofs.code.Tie as tie
 

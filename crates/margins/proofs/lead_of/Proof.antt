@@ -2,12 +2,13 @@
 use native.Mathlib.Omega.{arith}
 use borrow.Author.Needs.{needs}
 use Rattle.margins.proofs.CastLaws.{ahead-cast}
-use Rattle.margins.proofs.LeastLaws.{size, lanes-marked, lanes-few, lanes-lead}
+use Rattle.tally.proofs.CountLaws.{bounds}
+use Rattle.margins.proofs.LeastLaws.{lanes-marked, lanes-few, lanes-lead}
 use Rattle.margins.proofs.lead_of.Statement.{statement}
 use Rattle.margins.proofs.lead_of.Tie as tie
 
 cast-lead : tie.Need-cast-lead
-cast-lead c = record { fits = omega (arith, size (c .args .q) (c .pre .alphabet)) }
+cast-lead c = record { fits = omega (arith, bounds (c .args .q) (c .pre .alphabet)) }
 
 ahead-requires : tie.Need-ahead-requires
 ahead-requires c κs = search needs
@@ -22,11 +23,11 @@ lead-requires c κs =
     let e = c .ahead2 .result in
     let ld = ahead-cast (s .args .q) (s .args .s) (s .args .f) d (c .before .ahead .ensures) in
     let le = ahead-cast (s .args .q) (s .args .s) (s .args .h) e (c .ahead2 .ensures) in
-    let bounds = size (s .args .q) (s .pre .alphabet) in
+    let b = bounds (s .args .q) (s .pre .alphabet) in
     let few = lanes-few (s .args .q) (s .args .half) (s .args .s) (s .args .c) (s .args .f) (s .args .h) d e (s .pre) ld le in (
       lanes-marked (s .args .q) (s .args .half) (s .args .s) (s .args .c) (s .args .f) (s .args .h) d e (s .pre) ld le,
-      bounds .0,
-      bounds .1,
+      b .0,
+      b .1,
       omega (arith, few, s .pre .size),
       few,
       s .pre .size,

@@ -1,7 +1,8 @@
 -- `margin_32` meets its contract: the least of the first four leads and of the last, for which each lane of d is one vote.
 use native.Mathlib.Omega.{arith}
 use borrow.Author.Needs.{needs}
-use Rattle.margins.proofs.LeastLaws.{size, last-marked, last-few, last-lead, errors-32, margin-32-is}
+use Rattle.tally.proofs.CountLaws.{bounds}
+use Rattle.margins.proofs.LeastLaws.{last-marked, last-few, last-lead, errors-32, margin-32-is}
 use Rattle.margins.proofs.margin_32.Statement.{statement}
 use Rattle.margins.proofs.margin_32.Tie as tie
 
@@ -16,15 +17,15 @@ four-leads-requires c κs =
 cast-lead : tie.Need-cast-lead
 cast-lead c =
     let s = c .before .before in
-    record { fits = omega (arith, size (s .args .q) (s .pre .0)) }
+    record { fits = omega (arith, bounds (s .args .q) (s .pre .0)) }
 
 lead-requires : tie.Need-lead-requires
 lead-requires c κs =
     let s = c .before .before in
     let d = c .before .less .result in
-    let bounds = size (s .args .q) (s .pre .0) in
+    let b = bounds (s .args .q) (s .pre .0) in
     let few = last-few (s .args .q) (s .args .f) (s .args .h) d (s .pre .0) (c .before .less .ensures) (omega (arith, s .pre .3 4 (omega arith))) in
-    (last-marked (s .args .q) (s .args .f) (s .args .h) d (s .pre .0) (c .before .less .ensures) (omega arith), bounds .0, bounds .1, omega (arith, few), few, omega arith)
+    (last-marked (s .args .q) (s .args .f) (s .args .h) d (s .pre .0) (c .before .less .ensures) (omega arith), b .0, b .1, omega (arith, few), few, omega arith)
 
 lower-requires : tie.Need-lower-requires
 lower-requires c κs = search needs
