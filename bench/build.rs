@@ -1,4 +1,5 @@
-//! Links the static libraries of the proved code: target/staticlib at the root of the repository.
+//! Links the static libraries of the proved code: target/staticlib at the root of the repository. LAYOUT, a number of bytes, is how far
+//! code is moved.
 
 use std::{env, path::PathBuf};
 
@@ -10,5 +11,7 @@ fn main() {
         println!("cargo:rerun-if-changed={}", folder.join(format!("lib{name}.a")).display());
         println!("cargo:rustc-link-lib=static={name}");
     }
+    println!("cargo:rustc-env=LAYOUT={}", env::var("LAYOUT").unwrap_or_else(|_| String::from("0")));
+    println!("cargo:rerun-if-env-changed=LAYOUT");
     println!("cargo:rerun-if-changed=build.rs");
 }

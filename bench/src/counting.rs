@@ -4,14 +4,18 @@ use crate::inputs::{self, Kind};
 use crate::passes::{self, Pass};
 use crate::{calls, proved};
 
-/// Runs so many passes of the named call; the words to read are lightly damaged.
+/// Runs so many passes of the named call; the words to read are lightly damaged. The soft calls have q 4 alone.
 pub fn run(name: &str, q: u32, m: u32, count: usize) -> Result<(), String> {
-    let (words, messages) = (inputs::words(q, m, Kind::Light), inputs::messages(q, m));
+    let (words, messages, samples) = (inputs::words(q, m, Kind::Light), inputs::messages(q, m), inputs::samples(m));
     let mut pass: Pass = match name {
         "proved-decode" => passes::read(proved::compare_decode, q, m, &words),
         "safe-decode" => passes::read(calls::safe_read_each, q, m, &words),
         "proved-encode" => passes::write(proved::compare_encode, q, m, &messages),
         "safe-encode" => passes::write(calls::safe_write_each, q, m, &messages),
+        "proved-soft-vote" => passes::soft_vote(proved::soft_vote, m, &samples),
+        "safe-soft-vote" => passes::soft_vote(calls::soft_vote, m, &samples),
+        "proved-soft-read" => passes::soft_read(proved::soft_read, m, &samples),
+        "safe-soft-read" => passes::soft_read(calls::soft_read, m, &samples),
         _ => return Err(format!("no call named {name}")),
     };
     for _ in 0..count {

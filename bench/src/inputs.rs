@@ -2,8 +2,8 @@
 
 use crate::calls::{plain_read, safe_write};
 
-/// How many inputs of each kind.
-pub const COUNT: usize = 64;
+/// How many inputs of each kind: so many that a processor cannot learn by heart which way each of them goes.
+pub const COUNT: usize = 1024;
 
 /// A xorshift generator: the same inputs in every run.
 struct Random(u64);

@@ -28,3 +28,6 @@ pub struct Reading {
 pub fn codes() -> impl Iterator<Item = (u32, u32)> {
     [2, 4, 8].into_iter().flat_map(|q| (2..=8).map(move |m| (q, m)))
 }
+
+// Bytes that nothing runs, as many as LAYOUT says: they move the code behind them.
+core::arch::global_asm!(concat!(".section .text.layout,\"axR\",@progbits\n.skip ", env!("LAYOUT"), ", 0x90\n.text"));

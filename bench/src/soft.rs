@@ -23,13 +23,16 @@ impl Sums {
         self.im += im;
     }
 
-    /// The symbol where the sums are sure of one.
+    /// The symbol where the sums are sure of one. Both symbols are worked out, so that chance decides no branch.
     #[inline(always)]
     fn decide(self) -> Option<u8> {
         let (re, im) = (self.re.abs(), self.im.abs());
-        let (large, small, lead, symbol) = if re < im { (im, re, self.im, 1) } else { (re, im, self.re, 0) };
+        let sideways = re < im;
+        let (large, small) = if sideways { (im, re) } else { (re, im) };
         let sure = large > 0.0 && 3.0 * small <= 2.0 * large;
-        sure.then_some(if lead > 0.0 { symbol } else { symbol + 2 })
+        let real = if self.re > 0.0 { 0 } else { 2 };
+        let imaginary = if self.im > 0.0 { 1 } else { 3 };
+        sure.then_some(if sideways { imaginary } else { real })
     }
 }
 

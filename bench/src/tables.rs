@@ -1,7 +1,7 @@
 //! The tables of times, as Markdown: what is measured, the ratios, and in words whether each bar holds.
 
-use std::fmt;
-use std::path::Path;
+use std::path::{Path, PathBuf};
+use std::{env, fmt, fs};
 
 use crate::inputs::{self, COUNT, KINDS};
 use crate::passes::{self, Pass};
@@ -10,7 +10,7 @@ use crate::{calls, codes, processes, proved, timing};
 /// The rows of a table are measured over and over, so many times in all, and the best times count: a load on the machine
 /// comes and goes.
 const MEASUREMENTS: usize = 256;
-const ROUNDS: usize = 150;
+const ROUNDS: usize = 40;
 const RUNS: usize = 200;
 
 /// The places where a bar is missed are named where they are so few.
@@ -37,9 +37,10 @@ impl fmt::Display for Ratio {
     }
 }
 
-/// The best times of one call in each row, over all sweeps.
-fn sweep<R, const C: usize>(rows: &[R], passes: impl Fn(&R) -> [Pass<'_>; C]) -> Vec<Times<C>> {
-    let mut best = vec![[f64::MAX; C]; rows.len()];
+/// The best times of one call in each row, over all sweeps, and over those in the file of this name, which other builds of this
+/// program have left there: how fast code runs hangs on where the linker happens to put it, so several layouts are measured.
+fn sweep<R, const C: usize>(name: &str, rows: &[R], passes: impl Fn(&R) -> [Pass<'_>; C]) -> Vec<Times<C>> {
+    let mut best = earlier(name).unwrap_or_else(|| vec![[f64::MAX; C]; rows.len()]);
     for _ in 0..MEASUREMENTS / rows.len() {
         for (row, best) in rows.iter().zip(&mut best) {
             let times = timing::best(ROUNDS, passes(row));
@@ -48,7 +49,30 @@ fn sweep<R, const C: usize>(rows: &[R], passes: impl Fn(&R) -> [Pass<'_>; C]) ->
             }
         }
     }
+    keep(name, &best);
     best
+}
+
+/// Where the times of a table are kept: in the folder that BENCH_TIMES names.
+fn file(name: &str) -> Option<PathBuf> {
+    env::var_os("BENCH_TIMES").map(|folder| Path::new(&folder).join(name))
+}
+
+/// The times that an earlier build kept.
+fn earlier<const C: usize>(name: &str) -> Option<Vec<Times<C>>> {
+    let text = fs::read_to_string(file(name)?).ok()?;
+    let times = |line: &str| {
+        let numbers: Vec<f64> = line.split(' ').map(|time| time.parse().expect("a time")).collect();
+        numbers.try_into().expect("as many times as competitors")
+    };
+    Some(text.lines().map(times).collect())
+}
+
+fn keep<const C: usize>(name: &str, times: &[Times<C>]) {
+    let line = |times: &Times<C>| times.map(|time| time.to_string()).join(" ") + "\n";
+    if let Some(file) = file(name) {
+        fs::write(file, times.iter().map(line).collect::<String>()).expect("the folder of times can be written to");
+    }
 }
 
 fn head(titles: &[&str]) {
@@ -84,7 +108,7 @@ pub fn decode() {
     let kinds = || KINDS.into_iter().zip(["clean", "lightly damaged", "doubtful"]);
     let rows: Vec<_> =
         codes().flat_map(|(q, m)| kinds().map(move |(kind, name)| (q, m, name, inputs::words(q, m, kind)))).collect();
-    let times = sweep(&rows, |&(q, m, _, ref words)| {
+    let times = sweep("decode", &rows, |&(q, m, _, ref words)| {
         [
             passes::read(proved::compare_decode, q, m, words),
             passes::read(calls::plain_read, q, m, words),
@@ -130,7 +154,7 @@ pub fn decode() {
 /// Encode: every code.
 pub fn encode() {
     let rows: Vec<_> = codes().map(|(q, m)| (q, m, inputs::messages(q, m))).collect();
-    let times = sweep(&rows, |&(q, m, ref messages)| {
+    let times = sweep("encode", &rows, |&(q, m, ref messages)| {
         [
             passes::write(proved::compare_encode, q, m, messages),
             passes::write(calls::plain_write, q, m, messages),
@@ -155,10 +179,10 @@ pub fn encode() {
 /// One soft vote and the soft read: every m.
 pub fn soft() {
     let rows: Vec<_> = (2..=8).map(|m| (m, inputs::samples(m))).collect();
-    let votes = sweep(&rows, |&(m, ref samples)| {
+    let votes = sweep("votes", &rows, |&(m, ref samples)| {
         [passes::soft_vote(proved::soft_vote, m, samples), passes::soft_vote(calls::soft_vote, m, samples)]
     });
-    let reads = sweep(&rows, |&(m, ref samples)| {
+    let reads = sweep("reads", &rows, |&(m, ref samples)| {
         [passes::soft_read(proved::soft_read, m, samples), passes::soft_read(calls::soft_read, m, samples)]
     });
     let ratios = |times: &[Times<2>]| -> Vec<Ratio> {

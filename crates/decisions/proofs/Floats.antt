@@ -28,21 +28,33 @@ pub is-clear : (l s : Float) (b : Bool) → lt (ofBits binary32 0) l ≡ b
 unfolding isClear
 is-clear l s b e = ap₂ _&&_ (sym e ∙ ap (λ t. lt t l) zero-bits) (ap₂ (λ x y. le (mul binary32 x s) (mul binary32 y l)) three-bits two-bits)
 
--- the decision by the larger magnitude, with the magnitudes x and y and the test t as the code has them
-module _ (l s x y : Float) (a b : ℕ) (z : Complex Float) (t : Bool) (X : x ≡ magnitude f32 l) (Y : y ≡ magnitude f32 s) (T : t ≡ isClear f32 x y) where
-  tested : t ≡ isClear f32 (magnitude f32 l) (magnitude f32 s)
-  tested = T ∙ ap₂ (isClear f32) X Y
+pub by-sign : (x : Float) (a b : ℕ) (u : Bool) → lt (ofBits binary32 0) x ≡ u → cond u a b ≡ cond (f32 .lt (f32 .number 0) x) a b
+by-sign x a b u e = ap (λ t. cond t a b) (sym e ∙ ap (λ o. lt o x) zero-bits)
 
-  pub by-unsure : not t ≡ true → unsure z ≡ decideBy f32 l s a b z
-  unfolding decideBy
-  by-unsure e = ap (λ u. cond u (sure (cond (lt (ofInt binary32 (pos 0)) l) a b) z) (unsure z)) (sym (not-true t e) ∙ tested)
+-- the decision by the magnitudes x and y
+module _ (z : Complex Float) (x y : Float) (t : Bool) (X : x ≡ magnitude f32 (z .re)) (Y : y ≡ magnitude f32 (z .im)) (T : t ≡ isClear f32 (cond (lt x y) y x) (cond (lt x y) x y)) where
+  -- both symbols, and the one that is picked
+  symbolOf : Bool → ℕ
+  symbolOf u = cond u (cond (f32 .lt (f32 .number 0) (z .im)) 1 3) (cond (f32 .lt (f32 .number 0) (z .re)) 0 2)
 
-  pub by-sure : not t ≡ false → (u : Bool) → lt (ofBits binary32 0) l ≡ u → sure (cond u a b) z ≡ decideBy f32 l s a b z
-  unfolding decideBy
-  by-sure e u f = ap₂ (λ v w. cond v (sure (cond w a b) z) (unsure z)) (sym (not-false t e) ∙ tested) (sym f ∙ ap (λ o. lt o l) zero-bits)
+  by-test : (u : Bool) → lt x y ≡ u → cond t (sure (symbolOf u) z) (unsure z) ≡ decide f32 z
+  unfolding decide decideBy symbolOf
+  by-test u e =
+      ap (λ v. cond v (sure (symbolOf u) z) (unsure z)) (T ∙ ap (λ v. isClear f32 (cond v y x) (cond v x y)) e)
+      ∙ order u
+      ∙ ap (λ v. cond v (decideBy f32 (z .im) (z .re) 1 3 z) (decideBy f32 (z .re) (z .im) 0 2 z)) (sym e ∙ ap₂ lt X Y)
+    where
+      order : (u : Bool) → cond (isClear f32 (cond u y x) (cond u x y)) (sure (symbolOf u) z) (unsure z) ≡ cond u (decideBy f32 (z .im) (z .re) 1 3 z) (decideBy f32 (z .re) (z .im) 0 2 z)
+      order true = ap₂ (λ a b. cond (isClear f32 a b) (sure (symbolOf true) z) (unsure z)) Y X
+      order false = ap₂ (λ a b. cond (isClear f32 a b) (sure (symbolOf false) z) (unsure z)) X Y
 
--- by both sums
-pub decided : (x y : Float) (z : Complex Float) (u : Bool) → x ≡ magnitude f32 (z .re) → y ≡ magnitude f32 (z .im) → lt x y ≡ u
-    → cond u (decideBy f32 (z .im) (z .re) 1 3 z) (decideBy f32 (z .re) (z .im) 0 2 z) ≡ decide f32 z
-unfolding decide
-decided x y z u X Y e = ap (λ t. cond t (decideBy f32 (z .im) (z .re) 1 3 z) (decideBy f32 (z .re) (z .im) 0 2 z)) (sym e ∙ ap₂ lt X Y)
+  pub by-unsure : not t ≡ true → unsure z ≡ decide f32 z
+  by-unsure e = ap (λ v. cond v (sure (symbolOf (lt x y)) z) (unsure z)) (sym (not-true t e)) ∙ by-test (lt x y) refl
+
+  pub by-sure : not t ≡ false → (a b c : ℕ) → a ≡ cond (f32 .lt (f32 .number 0) (z .re)) 0 2 → b ≡ cond (f32 .lt (f32 .number 0) (z .im)) 1 3 → c ≡ cond (lt x y) b a
+      → sure c z ≡ decide f32 z
+  unfolding symbolOf
+  by-sure e a b c A B C =
+      ap (λ n. sure n z) (C ∙ ap₂ (cond (lt x y)) B A)
+      ∙ ap (λ v. cond v (sure (symbolOf (lt x y)) z) (unsure z)) (sym (not-false t e))
+      ∙ by-test (lt x y) refl

@@ -1,8 +1,10 @@
 // The decision for one symbol by its two sums.
 use sums::Sums;
 ghost use mathlib.Core.Path.{_≡_};
+ghost use mathlib.Core.Bool.{cond};
+ghost use lib.Ieee.{lt};
 ghost use Rattle.samples.specs.Numbers.{f32};
-ghost use Rattle.samples.specs.Decision.{magnitude, isClear, decideBy, decide, isSure, symbol};
+ghost use Rattle.samples.specs.Decision.{magnitude, isClear, decide, isSure, symbol};
 ghost use Rattle.sums.specs.Pair.{pair};
 ghost use Rattle.decisions.specs.Voted.{voted};
 
@@ -20,34 +22,56 @@ fn size_of(x: f32) -> f32
     if x < 0.0 { -x } else { x }
 }
 
-// Whether the larger magnitude l and the smaller one s are sure.
-fn is_clear(l: f32, s: f32) -> bool
-    ensures { λ r. ⌜ r ≡ isClear f32 l s ⌝ }
+// The larger of two magnitudes: the second only where it is larger.
+fn larger(a: f32, b: f32) -> f32
+    ensures { λ r. ⌜ r ≡ cond (lt a b) b a ⌝ }
 {
-    l > 0.0 && 3.0 * s <= 2.0 * l
+    if a < b { b } else { a }
 }
 
-// The decision by the sum l of the larger magnitude: a where it is positive, b where it is negative.
-fn decide_by(l: f32, s: f32, a: u8, b: u8, sums: Sums) -> SoftVote
-    ensures { λ r. ⌜ voted r ≡ decideBy f32 l s a b (pair sums) ⌝ }
+// The smaller one: the other of the two.
+fn smaller(a: f32, b: f32) -> f32
+    ensures { λ r. ⌜ r ≡ cond (lt a b) a b ⌝ }
 {
-    if !is_clear(size_of(l), size_of(s)) {
-        return SoftVote::Unsure(sums);
-    }
-    if l > 0.0 {
-        return SoftVote::Sure(a, sums);
-    }
-    SoftVote::Sure(b, sums)
+    if a < b { a } else { b }
 }
 
-// The decision by both sums.
+// Whether the magnitudes a and b are sure. The smaller one is worked out only after the first test, so that the compiler takes both from
+// the processor's own minimum and maximum.
+fn is_clear(a: f32, b: f32) -> bool
+    ensures { λ r. ⌜ r ≡ isClear f32 (cond (lt a b) b a) (cond (lt a b) a b) ⌝ }
+{
+    let l = larger(a, b);
+    l > 0.0 && 3.0 * smaller(a, b) <= 2.0 * l
+}
+
+// The symbol by the sign of x: a where it is positive, else b.
+fn by_sign(x: f32, a: u8, b: u8) -> u8
+    ensures { λ r. ⌜ r ≡ cond (f32 .lt (f32 .number 0) x) a b ⌝ }
+{
+    if x > 0.0 { a } else { b }
+}
+
+// The one of two symbols that the test picks.
+fn pick(test: bool, a: u8, b: u8) -> u8
+    ensures { λ r. ⌜ r ≡ cond test a b ⌝ }
+{
+    if test { a } else { b }
+}
+
+// The decision by both sums. Which sum is larger, and which sign it has, are as good as random from word to word, so both symbols are
+// worked out and one is picked: the compiler leaves no branch that they could mislead.
 pub fn decision(s: Sums) -> SoftVote
     ensures { λ r. ⌜ voted r ≡ decide f32 (pair s) ⌝ }
 {
-    if size_of(s.re) < size_of(s.im) {
-        return decide_by(s.im, s.re, 1, 3, s);
+    let a = size_of(s.re);
+    let b = size_of(s.im);
+    if !is_clear(a, b) {
+        return SoftVote::Unsure(s);
     }
-    decide_by(s.re, s.im, 0, 2, s)
+    let real = by_sign(s.re, 0, 2);
+    let imaginary = by_sign(s.im, 1, 3);
+    SoftVote::Sure(pick(a < b, imaginary, real), s)
 }
 
 // Whether a decision is sure.

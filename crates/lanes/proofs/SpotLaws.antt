@@ -58,7 +58,7 @@ module _ (k t : ℕ) (hk : k < 4) (ht : t < 16) where
   place-high e = ap (λ z. either z (offset t) (16 + offset (t - 2 ^ laneBit k))) e
 
 -- the sixteen votes of 32 places, in the order of the lanes
-near-sum : (k : ℕ) → k < 4 → (h : ℕ → ℕ) → sum 16 (λ t. h (place k t)) ≡ sum 32 (λ i. ifClear (bit k i) (h i))
+pub near-sum : (k : ℕ) → k < 4 → (h : ℕ → ℕ) → sum 16 (λ t. h (place k t)) ≡ sum 32 (λ i. ifClear (bit k i) (h i))
 unfolding sum place either bit laneBit offset ifClear
 near-sum zero l h = omega arith
 near-sum (suc zero) l h = omega arith

@@ -85,7 +85,7 @@ fn number(x: &[u64; 16], i: usize) -> u64
 
 // The sixteen votes for coefficient k, below 4, in two numbers: those of the first in the lanes whose bit is 0, those of the second
 // in the others.
-fn near(q: u64, k: u32, a: u64, b: u64) -> u64
+pub fn near(q: u64, k: u32, a: u64, b: u64) -> u64
     requires { ⌜ (isAlphabet q ≡ true) × Below q a × Below q b × (k < 4) ⌝ }
     ensures { λ r. ⌜ NearVotes q k a b r × Below q r ⌝ }
 {

@@ -16,8 +16,8 @@ use Rattle.theory.proofs.SumLaws.{sum-ext}
 use Rattle.digits.specs.Digit.{digit, number}
 use Rattle.digits.proofs.DigitLaws.{digit-lt, digit-and, digit-xor, digit-add, add-lt, digit-sub, number-of}
 use Rattle.lanes.specs.Lane.{Lanes, Below}
-use Rattle.lanes.proofs.LaneLaws.{lanes-are, full-lanes, spread-lanes}
-use Rattle.leads.specs.Lead.{marked, Mask}
+use Rattle.lanes.proofs.LaneLaws.{lanes-are, full-lanes, one-lanes, spread-lanes}
+use Rattle.leads.specs.Lead.{Mask, cast}
 
 seven-lanes : Lanes 0x7777_7777_7777_7777 (λ t. 7)
 unfolding every digit
@@ -91,21 +91,20 @@ fifteen f p e l = omega arith
 pub total-is : (p : ℕ) → p < 18446744073709551616 → sum 16 (digit 4 p) < 15 → p % 15 ≡ sum 16 (digit 4 p)
 total-is p h l = fifteen (digit 4 p) p (number-of 4 16 p h) l
 
--- THE VOTES of two numbers
-times-le : (a b : ℕ) → a ≤ 1 → b ≤ 1 → a * b ≤ 1
-times-le zero b h k = omega arith
-times-le (suc zero) b h k = omega arith
-times-le (suc (suc a)) b h k = absurd (omega arith)
+-- THE VOTES for v: every lane counts
+pub every-lane : Mask 0x1111_1111_1111_1111
+every-lane t h = omega (arith, one-lanes t h)
 
-module _ (d e c v x y : ℕ) (hx : x < 18446744073709551616) (hy : y < 18446744073709551616) (m : Mask c) (lx : Lanes x (λ t. digit 4 c t * same (digit 4 d t) v)) (ly : Lanes y (λ t. digit 4 c t * same (digit 4 e t) v)) where
-  few : (t : ℕ) → t < 16 → digit 4 x t + digit 4 y t < 16
-  few t h =
-      omega (arith, lx t h, ly t h, times-le (digit 4 c t) (same (digit 4 d t) v) (m t h) (same-le (digit 4 d t) v), times-le (digit 4 c t) (same (digit 4 e t) v) (m t h) (same-le (digit 4 e t) v))
+pub equal-sum : (x v r : ℕ) → Lanes r (λ t. digit 4 0x1111_1111_1111_1111 t * same (digit 4 x t) v) → sum 16 (digit 4 r) ≡ cast x v
+unfolding cast
+equal-sum x v r l = sum-ext 16 _ _ (λ t h. l t h ∙ ap (λ c. c * same (digit 4 x t) v) (one-lanes t h) ∙ one-mul (same (digit 4 x t) v))
 
-  pub both-lt : x + y < 18446744073709551616
-  both-lt = add-lt 4 16 x y hx hy few
-
-  pub both-sum : sum 16 (digit 4 (x + y)) ≡ marked d e c v
-  unfolding marked
-  both-sum =
-      sum-ext 16 _ _ (λ t h. digit-add 4 16 x y hx hy few t h ∙ ap₂ (λ a b. a + b) (lx t h) (ly t h) ∙ sym (mul-add (digit 4 c t) (same (digit 4 d t) v) (same (digit 4 e t) v)))
+-- where no lane is above 1, the lanes are the votes for 1
+pub two-sum : (x : ℕ) → Below 2 x → sum 16 (digit 4 x) ≡ cast x 1
+unfolding cast same
+two-sum x b = sum-ext 16 _ _ (λ t h. go (digit 4 x t) (b t h))
+  where
+    go : (d : ℕ) → d < 2 → d ≡ same d 1
+    go zero h = refl
+    go (suc zero) h = refl
+    go (suc (suc d)) h = absurd (omega arith)

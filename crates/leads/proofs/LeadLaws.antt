@@ -2,7 +2,7 @@
 use Prim.Native.Nat.{ℕ, zero, suc, _+_, _*_, _-_, _≤_, _<_, max}
 use mathlib.Core.Path.{_≡_, ap, ap₂, sym, _∙_}
 use mathlib.Core.Logic.{_⊎_, inl, inr}
-use native.Mathlib.Nat.{eq-or-lt-of-le}
+use native.Mathlib.Nat.{eq-or-lt-of-le, zero-add}
 use native.Mathlib.Omega.{arith}
 use Rattle.theory.proofs.ErrorLaws.{sumFrom1, maxFrom1}
 
@@ -59,3 +59,15 @@ module _ (q v b m : ℕ) (f : ℕ → ℕ) (eb : b ≡ sumFrom1 (v - 1) f) (em :
 
   pub last-is : (h : ℕ) → v ≡ q → h - b - m ≡ h - sumFrom1 (q - 1) f - maxFrom1 (q - 1) f
   last-is h e = ap₂ (λ x y. h - x - y) (eb ∙ ap (λ z. sumFrom1 (z - 1) f) e) (em ∙ ap (λ z. maxFrom1 (z - 1) f) e)
+
+-- ONE OTHER VALUE
+pub one-sum : (q : ℕ) (f : ℕ → ℕ) → q ≡ 2 → sumFrom1 (q - 1) f ≡ f 1
+unfolding sumFrom1
+one-sum q f e = ap (λ z. sumFrom1 (z - 1) f) e ∙ zero-add (f 1)
+
+one-max : (q : ℕ) (f : ℕ → ℕ) → q ≡ 2 → maxFrom1 (q - 1) f ≡ f 1
+unfolding maxFrom1
+one-max q f e = let m : max 0 (f 1) ≡ f 1 = omega arith in ap (λ z. maxFrom1 (z - 1) f) e ∙ m
+
+pub one-other : (q h : ℕ) (f : ℕ → ℕ) → q ≡ 2 → h - f 1 - f 1 ≡ h - sumFrom1 (q - 1) f - maxFrom1 (q - 1) f
+one-other q h f e = ap₂ (λ x y. h - x - y) (sym (one-sum q f e)) (sym (one-max q f e))

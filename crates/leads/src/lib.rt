@@ -1,5 +1,5 @@
-// The lead of the right value among sixteen votes or fewer for one coefficient. The votes stand in the four-bit lanes of two numbers,
-// relative to the right value, so that 0 is the right vote. A mask has 1 in the lanes that count.
+// The lead of the right value among sixteen votes for one coefficient. The votes stand in the four-bit lanes of one number, relative to
+// the right value, so that 0 is the right vote.
 ghost use mathlib.Core.Path.{_≡_};
 ghost use Prim.Native.Nat.{_*_, _-_, _<_, _≤_};
 ghost use Rattle.theory.specs.Sum.{sum};
@@ -7,7 +7,7 @@ ghost use Rattle.theory.specs.Modular.{same};
 ghost use Rattle.digits.specs.Digit.{digit};
 ghost use Rattle.lanes.specs.Lane.{Lanes, Below};
 ghost use Rattle.theory.proofs.ErrorLaws.{sumFrom1, maxFrom1};
-ghost use Rattle.leads.specs.Lead.{marked, Mask, Marked};
+ghost use Rattle.leads.specs.Lead.{Mask, cast};
 
 // 1 in each lane of the mask c whose lane of d is v: the lanes of d that are v are 0 after the xor, and only they stay below 8.
 pub fn equal(d: u64, v: u64, c: u64) -> u64
@@ -25,25 +25,45 @@ pub fn total(p: u64) -> u32
     (p % 15) as u32
 }
 
-// How many marked lanes of d and e are v.
-fn votes(d: u64, e: u64, c: u64, v: u64) -> u32
-    requires { ⌜ Marked d e c × (v < 8) × (marked d e c v < 15) ⌝ }
-    ensures { λ r. ⌜ r ≡ marked d e c v ⌝ }
+// How many lanes of x are v.
+fn votes(x: u64, v: u64) -> u32
+    requires { ⌜ Below 8 x × (v < 8) × (cast x v < 15) ⌝ }
+    ensures { λ r. ⌜ r ≡ cast x v ⌝ }
 {
-    total(equal(d, v, c) + equal(e, v, c))
+    total(equal(x, v, 0x1111_1111_1111_1111))
 }
 
-// The lead of 0: half, less the wrong votes, less the most votes for one wrong value.
-pub fn lead(q: u32, half: u32, d: u64, e: u64, c: u64) -> u32
-    requires { ⌜ Marked d e c × (2 ≤ q) × (q ≤ 8) × (sumFrom1 (q - 1) (marked d e c) < 15) × (2 * sumFrom1 (q - 1) (marked d e c) ≤ half) × (half ≤ 16) ⌝ }
-    ensures { λ r. ⌜ r ≡ half - sumFrom1 (q - 1) (marked d e c) - maxFrom1 (q - 1) (marked d e c) ⌝ }
+// The lead of 0 where 1 is the only other value: the lanes that are 1 add up to the wrong votes.
+fn lead_of_two(half: u32, x: u64) -> u32
+    requires { ⌜ Below 2 x × (cast x 1 < 15) × (2 * cast x 1 ≤ half) ⌝ }
+    ensures { λ r. ⌜ r ≡ half - cast x 1 - cast x 1 ⌝ }
+{
+    let bad = total(x);
+    half - bad - bad
+}
+
+// The lead of 0 by the votes for each other value.
+fn lead_by_values(q: u32, half: u32, x: u64) -> u32
+    requires { ⌜ Below 8 x × (2 ≤ q) × (q ≤ 8) × (sumFrom1 (q - 1) (cast x) < 15) × (2 * sumFrom1 (q - 1) (cast x) ≤ half) ⌝ }
+    ensures { λ r. ⌜ r ≡ half - sumFrom1 (q - 1) (cast x) - maxFrom1 (q - 1) (cast x) ⌝ }
 {
     let mut bad: u32 = 0;
     let mut next: u32 = 0;
     for v in 1..q {
-        let n = votes(d, e, c, v as u64);
+        let n = votes(x, v as u64);
         bad = bad + n;
         next = race::larger(next, n);
     }
     half - bad - next
+}
+
+// The lead of 0: half, less the wrong votes, less the most votes for one wrong value.
+pub fn lead(q: u32, half: u32, x: u64) -> u32
+    requires { ⌜ Below q x × (2 ≤ q) × (q ≤ 8) × (sumFrom1 (q - 1) (cast x) < 15) × (2 * sumFrom1 (q - 1) (cast x) ≤ half) ⌝ }
+    ensures { λ r. ⌜ r ≡ half - sumFrom1 (q - 1) (cast x) - maxFrom1 (q - 1) (cast x) ⌝ }
+{
+    if q == 2 {
+        return lead_of_two(half, x);
+    }
+    lead_by_values(q, half, x)
 }

@@ -1,22 +1,20 @@
 -- The leads by equal votes, and the least of them. Assumes nothing.
-use Prim.Native.Nat.{ℕ, zero, suc, _+_, _*_, _-_, _/_, _^_, _≤_, _<_, min, max}
-use mathlib.Core.Path.{_≡_, refl, ap₂, sym, _∙_}
+use Prim.Native.Nat.{ℕ, _*_, _-_, _≤_, _<_, min}
+use mathlib.Core.Path.{_≡_, ap₂, sym, _∙_}
 use mathlib.Core.Bool.{true}
 use native.Mathlib.Omega.{arith}
-use Rattle.theory.specs.Modular.{subMod}
 use Rattle.theory.specs.Vote.{votes}
 use Rattle.theory.specs.Margin.{lead, least}
 use Rattle.theory.specs.Question.{isAlphabet}
 use Rattle.theory.proofs.QuestionLaws.{alphabet-positive}
 use Rattle.theory.proofs.MarginLaws.{least-ext}
 use Rattle.theory.proofs.ErrorLaws.{sumFrom1, maxFrom1, sumFrom1-ext, maxFrom1-ext, lead-zero}
-use Rattle.digits.specs.Digit.{digit}
 use Rattle.tally.proofs.CountLaws.{bounds}
-use Rattle.lanes.specs.Lane.{Lanes, Below}
-use Rattle.lanes.proofs.LaneLaws.{less-below, down-below, none-below}
-use Rattle.leads.specs.Lead.{marked, Marked}
-use Rattle.margins.specs.Margins.{placeOf, placesOf, aheadAt, castBy, bothVotes, leadBy, Marks, Errors}
-use Rattle.margins.proofs.CastLaws.{Polls, polls-3, ahead-eight, marked-cast, marked-last, both-none, votes-both}
+use Rattle.lanes.specs.Lane.{Below}
+use Rattle.lanes.proofs.LaneLaws.{none-below}
+use Rattle.leads.specs.Lead.{cast}
+use Rattle.margins.specs.Margins.{placeOf, placesOf, bothVotes, leadBy, Errors}
+use Rattle.margins.proofs.CastLaws.{both-none, votes-both}
 
 pub leadBy-ext : (q half : ℕ) (f g : ℕ → ℕ) → ((v : ℕ) → 1 ≤ v → f v ≡ g v) → leadBy q half f ≡ leadBy q half g
 unfolding leadBy
@@ -31,49 +29,15 @@ pub lead-same : (q half r : ℕ) (f g : ℕ → ℕ) → ((v : ℕ) → 1 ≤ v 
 unfolding leadBy
 lead-same q half r f g e k = k ∙ leadBy-ext q half f g e
 
--- THE LEAD OF LANES: d and e hold by how much the lanes of f and h are behind their partners
-module _ (q half s c f h d e : ℕ) (m : Marks q half s c f h) (ld : Lanes d (aheadAt q s f)) (le : Lanes e (aheadAt q s h)) where
-  pub lanes-marked : Marked d e c
-  lanes-marked = record { first = ahead-eight q s f d (m .alphabet) ld; second = ahead-eight q s h e (m .alphabet) le; mask = m .mask }
+-- WHAT LEADS ASKS of the votes in the lanes of x, and what it tells
+module _ (q half x : ℕ) (g : ℕ → ℕ) (a : isAlphabet q ≡ true) (b : Below q x) (e : (v : ℕ) → cast x v ≡ g v) (s : half ≤ 16) (few : 2 * sumFrom1 (q - 1) g ≤ half) where
+  pub lead-room : Below q x × (2 ≤ q) × (q ≤ 8) × (sumFrom1 (q - 1) (cast x) < 15) × (2 * sumFrom1 (q - 1) (cast x) ≤ half)
+  lead-room =
+      let l = few-same q half (cast x) g (λ v _. e v) few in
+      (b, bounds q a .0, bounds q a .1, omega (arith, l, s), l)
 
-  pub lanes-few : 2 * sumFrom1 (q - 1) (marked d e c) ≤ half
-  lanes-few = few-same q half (marked d e c) (castBy q s c f h) (λ v _. marked-cast q s c f h d e ld le v) (m .few)
-
-  pub lanes-lead : (r : ℕ) → r ≡ half - sumFrom1 (q - 1) (marked d e c) - maxFrom1 (q - 1) (marked d e c) → r ≡ leadBy q half (castBy q s c f h)
-  lanes-lead r k = lead-same q half r (marked d e c) (castBy q s c f h) (λ v _. marked-cast q s c f h d e ld le v) k
-
--- THE LEAD OF COEFFICIENT 4: d holds by how much the lanes of f are behind those of h
-module _ (q f h d : ℕ) (a : isAlphabet q ≡ true) (ld : Lanes d (λ t. subMod q (digit 4 h t) (digit 4 f t))) where
-  last-below : Below q d
-  last-below = less-below q h f d a ld
-
-  pub last-marked : d < 18446744073709551616 → Marked d (d / 2 ^ 4) 0x0101_0101_0101_0101
-  last-marked hd = record {
-    first = λ t i. omega (arith, last-below t i, bounds q a);
-    second = λ t i. omega (arith, down-below q 1 d a hd last-below t i, bounds q a);
-    mask = polls-3 .mask;
-  }
-
-  pub last-few : 2 * sumFrom1 (q - 1) (votes q 5 4 (placesOf f h)) ≤ 16 → 2 * sumFrom1 (q - 1) (marked d (d / 2 ^ 4) 0x0101_0101_0101_0101) ≤ 16
-  last-few l = few-same q 16 (marked d (d / 2 ^ 4) 0x0101_0101_0101_0101) (votes q 5 4 (placesOf f h)) (λ v _. marked-last q f h d ld v) l
-
-  pub last-lead : (r : ℕ) → r ≡ 16 - sumFrom1 (q - 1) (marked d (d / 2 ^ 4) 0x0101_0101_0101_0101) - maxFrom1 (q - 1) (marked d (d / 2 ^ 4) 0x0101_0101_0101_0101) → r ≡ leadBy q 16 (votes q 5 4 (placesOf f h))
-  last-lead r k = lead-same q 16 r (marked d (d / 2 ^ 4) 0x0101_0101_0101_0101) (votes q 5 4 (placesOf f h)) (λ v _. marked-last q f h d ld v) k
-
--- ONE COEFFICIENT, below 4
-pub marks-of : (k s c q half f h : ℕ) → Polls k s c → Errors q half f h → Marks q half s c f h
-marks-of k s c q half f h p e = record {
-  alphabet = e .alphabet;
-  first = e .first;
-  second = e .second;
-  near = p .near;
-  mask = p .mask;
-  size = e .size;
-  few = few-same q half (castBy q s c f h) (bothVotes q k f h) (λ v _. p .polled q f h v) (e .few k (p .coefficient));
-}
-
-pub lead-polled : (k s c q half f h r : ℕ) → Polls k s c → r ≡ leadBy q half (castBy q s c f h) → r ≡ leadBy q half (bothVotes q k f h)
-lead-polled k s c q half f h r p e = e ∙ leadBy-ext q half (castBy q s c f h) (bothVotes q k f h) (λ v _. p .polled q f h v)
+  pub lead-told : (r : ℕ) → r ≡ half - sumFrom1 (q - 1) (cast x) - maxFrom1 (q - 1) (cast x) → r ≡ leadBy q half g
+  lead-told r k = lead-same q half r (cast x) g (λ v _. e v) k
 
 -- THE LEAST OF FOUR, one after the other
 pub least-four : (g : ℕ → ℕ) (a b c d r1 r2 r3 : ℕ) → a ≡ g 0 → b ≡ g 1 → r1 ≡ min a b → c ≡ g 2 → r2 ≡ min r1 c → d ≡ g 3 → r3 ≡ min r2 d → r3 ≡ least 3 g

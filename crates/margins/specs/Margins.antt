@@ -3,14 +3,11 @@ use Prim.Native.Nat.{ℕ, _+_, _*_, _-_, _/_, _%_, _≤_, _<_}
 use mathlib.Core.Path.{_≡_}
 use mathlib.Core.Bool.{true, cond}
 use lib.Dec.{ltb}
-use Rattle.theory.specs.Sum.{sum}
-use Rattle.theory.specs.Modular.{subMod, same}
 use Rattle.theory.specs.Vote.{votes}
 use Rattle.theory.specs.Question.{isAlphabet}
 use Rattle.theory.proofs.ErrorLaws.{sumFrom1, maxFrom1}
 use Rattle.digits.specs.Digit.{digit}
 use Rattle.lanes.specs.Lane.{laneOf, Below}
-use Rattle.leads.specs.Lead.{Mask}
 
 -- place i of the sixteen that f holds
 unfoldable pub placeOf : ℕ → ℕ → ℕ
@@ -20,14 +17,6 @@ placeOf f i = digit 4 f (laneOf i)
 unfoldable pub placesOf : ℕ → ℕ → ℕ → ℕ
 placesOf f h i = cond (ltb i 16) (placeOf f i) (placeOf h (i - 16))
 
--- by how much lane t of x is behind the lane s further on, modulo q
-unfoldable pub aheadAt : ℕ → ℕ → ℕ → ℕ → ℕ
-aheadAt q s x t = subMod q (digit 4 x (s + t)) (digit 4 x t)
-
--- how many of the lanes of f and h that c marks cast v, with the partners s lanes further on
-unfoldable pub castBy : ℕ → ℕ → ℕ → ℕ → ℕ → ℕ → ℕ
-castBy q s c f h v = sum 16 (λ t. digit 4 c t * (same (aheadAt q s f t) v + same (aheadAt q s h t) v))
-
 -- the votes of both numbers for coefficient k, below 4
 unfoldable pub bothVotes : ℕ → ℕ → ℕ → ℕ → ℕ → ℕ
 bothVotes q k f h v = votes q 4 k (placeOf f) v + votes q 4 k (placeOf h) v
@@ -35,16 +24,6 @@ bothVotes q k f h v = votes q 4 k (placeOf f) v + votes q 4 k (placeOf h) v
 -- the lead of 0 among `half` votes, by those that g gives to the values from 1 to q - 1
 unfoldable pub leadBy : ℕ → ℕ → (ℕ → ℕ) → ℕ
 leadBy q half g = half - sumFrom1 (q - 1) g - maxFrom1 (q - 1) g
-
--- f and h hold symbols, c marks lanes with partners s lanes further on, and at most half of the votes are wrong
-pub record Marks (q half s c f h : ℕ) : Type 0 where
-  pub alphabet : isAlphabet q ≡ true
-  pub first : Below q f
-  pub second : Below q h
-  pub near : s < 16
-  pub mask : Mask c
-  pub size : half ≤ 16
-  pub few : 2 * sumFrom1 (q - 1) (castBy q s c f h) ≤ half
 
 -- f and h hold symbols, and at most half of the votes for each of the coefficients 0 to 3 are wrong
 pub record Errors (q half f h : ℕ) : Type 0 where

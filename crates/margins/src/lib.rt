@@ -8,20 +8,14 @@ ghost use Rattle.theory.specs.Margin.{lead, least};
 ghost use Rattle.theory.specs.Question.{isAlphabet};
 ghost use Rattle.theory.proofs.ErrorLaws.{sumFrom1};
 ghost use Rattle.lanes.specs.Lane.{Below};
-ghost use Rattle.margins.specs.Margins.{placeOf, placesOf, castBy, bothVotes, leadBy, Marks, Errors};
+ghost use Rattle.margins.specs.Margins.{placeOf, placesOf, bothVotes, leadBy, Errors};
 
-// The lead of 0 among the votes that the lanes marked in c cast, with their partners s lanes further on.
-fn lead_of(q: u64, half: u32, s: u32, c: u64, f: u64, h: u64) -> u32
-    requires { ⌜ Marks q half s c f h ⌝ }
-    ensures { λ r. ⌜ r ≡ leadBy q half (castBy q s c f h) ⌝ }
+// The lead of 0 among the votes for coefficient k, below 4, that both numbers cast.
+fn lead_of(q: u64, half: u32, k: u32, f: u64, h: u64) -> u32
+    requires { ⌜ Errors q half f h × (k < 4) ⌝ }
+    ensures { λ r. ⌜ r ≡ leadBy q half (bothVotes q k f h) ⌝ }
 {
-    leads::lead(
-        q as u32,
-        half,
-        lanes::ahead(q, s, f),
-        lanes::ahead(q, s, h),
-        c,
-    )
+    leads::lead(q as u32, half, lanes::near(q, k, f, h))
 }
 
 // The least lead of the coefficients 0 to 3, whose partners stand in one number.
@@ -29,10 +23,10 @@ fn four_leads(q: u64, half: u32, f: u64, h: u64) -> u32
     requires { ⌜ Errors q half f h ⌝ }
     ensures { λ r. ⌜ r ≡ least 3 (λ k. leadBy q half (bothVotes q k f h)) ⌝ }
 {
-    let least = lead_of(q, half, 2, 0x0011_0011_0011_0011, f, h);
-    let least = race::lower(least, lead_of(q, half, 4, 0x0000_1111_0000_1111, f, h));
-    let least = race::lower(least, lead_of(q, half, 8, 0x0000_0000_1111_1111, f, h));
-    race::lower(least, lead_of(q, half, 1, 0x0101_0101_0101_0101, f, h))
+    let least = lead_of(q, half, 0, f, h);
+    let least = race::lower(least, lead_of(q, half, 1, f, h));
+    let least = race::lower(least, lead_of(q, half, 2, f, h));
+    race::lower(least, lead_of(q, half, 3, f, h))
 }
 
 // The margin of 16 places. There are no errors in the second number, and it casts no wrong vote.
@@ -43,15 +37,13 @@ pub fn margin_16(q: u64, f: u64) -> u32
     four_leads(q, 8, f, 0)
 }
 
-// The margin of 32 places, the first sixteen in f. The partners for coefficient 4 stand in the other number: the even lanes of d are
-// votes for it, and the odd ones, one lane down.
+// The margin of 32 places, the first sixteen in f. The partners for coefficient 4 stand in the other number.
 pub fn margin_32(q: u64, f: u64, h: u64) -> u32
     requires { ⌜ (isAlphabet q ≡ true) × Below q f × Below q h × ((k : ℕ) → k < 5 → sumFrom1 (q - 1) (votes q 5 k (placesOf f h)) < 8) ⌝ }
     ensures { λ r. ⌜ r ≡ least 4 (λ k. lead q 0 (votes q 5 k (placesOf f h))) ⌝ }
 {
-    let d = lanes::less(q, h, f);
     race::lower(
         four_leads(q, 16, f, h),
-        leads::lead(q as u32, 16, d, d >> 4, 0x0101_0101_0101_0101),
+        leads::lead(q as u32, 16, lanes::less(q, h, f)),
     )
 }

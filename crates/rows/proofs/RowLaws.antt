@@ -161,11 +161,20 @@ four-put re im sr si r1 i1 r2 i2 r3 i3 r4 i4 v0 w0 v1 w1 v2 w2 v3 w3 r i e1 e2 e
     let s3 = stored-next f 0 sr si r2 i2 r3 i3 2 v2 w2 (omega arith) s2 c e3 in
     all-low 4 re im sr si r4 i4 (stored-next f 0 sr si r3 i3 r4 i4 3 v3 w3 (omega arith) s3 d e4)
 
+-- ---- four samples
+-- both sums, stored one after the other
+pub two-put : (re im sr si r1 i1 r2 i2 : List Float) (v0 w0 v1 w1 : Float) → length sr ≡ 8 → length si ≡ 8
+    → (r1 ≡ set sr 0 v0) × (i1 ≡ set si 0 w0) → (r2 ≡ set r1 1 v1) × (i2 ≡ set i1 1 w1) → complex v0 w0 ≡ sumsOf 2 re im 0 → complex v1 w1 ≡ sumsOf 2 re im 1 → AllSums 2 re im r2 i2
+two-put re im sr si r1 i1 r2 i2 v0 w0 v1 w1 r i e1 e2 a b =
+    let f = sumsOf 2 re im in
+    let s1 = stored-next f 0 sr si sr si r1 i1 0 v0 w0 (omega arith) (stored-none f 0 sr si r i) a e1 in
+    all-low 2 re im sr si r2 i2 (stored-next f 0 sr si r1 i1 r2 i2 1 v1 w1 (omega arith) s1 b e2)
+
 pub samples-by : (m n : ℕ) (re im : List Float) → m ≡ n → Samples m re im → Samples n re im
 samples-by m n re im e s = rw e at s
 
-pub all-sixteen : (m : ℕ) (re im sr si : List Float) → 4 ≡ m → AllSums 4 re im sr si → AllSums m re im sr si
-all-sixteen m re im sr si e a = rw e at a
+pub all-of : (n m : ℕ) (re im sr si : List Float) → n ≡ m → AllSums n re im sr si → AllSums m re im sr si
+all-of n m re im sr si e a = rw e at a
 
 -- ---- no votes yet
 -- eight zeros, as the code makes them

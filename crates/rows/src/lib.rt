@@ -1,4 +1,5 @@
-// The sums of the votes for every coefficient at once, q = 4: many samples by rows of eight votes, sixteen samples in one loop.
+// The sums of the votes for every coefficient at once, q = 4: many samples by rows of eight votes, sixteen samples in one loop, four with
+// no loop.
 use sums::Sums;
 ghost use mathlib.Core.Path.{_≡_};
 ghost use Prim.Native.Nat.{_+_, _*_, _/_, _<_, _≤_};
@@ -171,6 +172,17 @@ fn put_sixteen(re: &[f32], im: &[f32], sr: &mut [f32], si: &mut [f32])
     store(3, s.third, sr, si);
 }
 
+// The sums of both coefficients of four samples.
+fn put_four(re: &[f32], im: &[f32], sr: &mut [f32], si: &mut [f32])
+    requires { ⌜ Samples 2 (now re) (now im) × (length (now sr) ≡ 8) × (length (now si) ≡ 8) ⌝ }
+    ensures { λ _. ⌜ AllSums 2 (now (re .entry)) (now (im .entry)) (now (sr .exit)) (now (si .exit)) ⌝ }
+{
+    let zeroth = sums::four_sums(0, re, im);
+    store(0, zeroth, sr, si);
+    let first = sums::four_sums(1, re, im);
+    store(1, first, sr, si);
+}
+
 // The sums of the votes for every coefficient, put into sr and si, which hold zeros.
 pub fn all_sums(m: u32, re: &[f32], im: &[f32], sr: &mut [f32], si: &mut [f32])
     requires { ⌜ Samples m (now re) (now im) × SumsTo (now re) (now im) 0 (now sr) (now si) m ⌝ }
@@ -178,6 +190,10 @@ pub fn all_sums(m: u32, re: &[f32], im: &[f32], sr: &mut [f32], si: &mut [f32])
 {
     if m == 4 {
         put_sixteen(re, im, sr, si);
+        return;
+    }
+    if m == 2 {
+        put_four(re, im, sr, si);
         return;
     }
     many_sums(m, re, im, sr, si);

@@ -122,6 +122,14 @@ module _ (m k : ℕ) (re im : List Float) where
     unfolding softVote voteAnswer
     vote-given h z f = rw (← e, h) (ap (decide f32) f)
 
+-- four samples
+pub four-accepted : (m k : ℕ) (re im : List Float) → m ≡ 2 → Samples m re im × (k < m) → Samples 2 re im × (k < 2)
+four-accepted m k re im e a = rw e at a
+
+pub four-given : (m k : ℕ) (re im : List Float) → m ≡ 2 → (n : ℕ) → n ≡ voteRefusal f32 m k re im → n ≡ 0 → (z : Complex Float) → z ≡ voteSums f32 2 k (sample f32 re im)
+    → decide f32 z ≡ softVote f32 m k re im
+four-given m k re im e n f h z g = vote-given m k re im n f h z (g ∙ ap (λ o. voteSums f32 o k (sample f32 re im)) (sym e))
+
 -- ---- the soft read
 module _ (m size : ℕ) (re im : List Float) where
   pub read-order : isOrder m ≡ false → 2 ≡ sampleRefusal m size re im

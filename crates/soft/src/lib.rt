@@ -96,13 +96,16 @@ fn vote_refusal(m: u32, k: u32, re: &[f32], im: &[f32]) -> u32
     0
 }
 
-// One soft vote for coefficient k.
+// One soft vote for coefficient k. That of four samples has no loop.
 pub fn soft_vote(m: u32, k: u32, re: &[f32], im: &[f32]) -> SoftVote
     ensures { λ r. ⌜ voted r ≡ softVote f32 m k (now (re .entry)) (now (im .entry)) ⌝ }
 {
     let number = vote_refusal(m, k, re, im);
     if number != 0 {
         return SoftVote::Refused(number);
+    }
+    if m == 2 {
+        return decisions::decision(sums::four_sums(k, re, im));
     }
     decisions::decision(sums::vote_sums(m, k, re, im))
 }

@@ -2,7 +2,7 @@
 use Prim.Native.Nat.{ℕ, zero, suc, _+_, _*_, _-_, _/_, _^_, _≤_, _<_}
 use mathlib.Core.Path.{_≡_, refl, ap, ap₂, sym, _∙_}
 use mathlib.Core.List.{List}
-use native.Mathlib.Nat.{div-mul-le-self}
+use native.Mathlib.Nat.{div-mul-le-self, zero-div, zero-mul}
 use native.Mathlib.Omega.{arith}
 use lib.ListN.{length, getD, take, drop, length-drop}
 use lib.Seq.{take-all, getD-drop}
@@ -120,3 +120,21 @@ votes-end re im m k b s S h e f = e ∙ votes-all f32 m k (2 * b) (sample f32 re
     fours zero h e = absurd (omega arith)
     fours (suc zero) h e = absurd (omega arith)
     fours (suc (suc m)) h e = omega arith
+
+-- ---- four samples
+-- the first index
+pub four-first : (k : ℕ) → 0 ≡ nthClear k 0
+unfolding nthClear
+four-first k = sym (ap (λ n. 0 + n * 2 ^ k) (zero-div (2 ^ k)) ∙ ap (λ n. 0 + n) (zero-mul (2 ^ k)))
+
+-- the index whose partner is the last
+pub four-last : (k g : ℕ) → k < 2 → g ≡ 2 ^ k → (g ≤ 3) × (3 - g ≡ nthClear k 1)
+unfolding nthClear
+four-last zero g h e = omega (arith, e)
+four-last (suc zero) g h e = omega (arith, e)
+four-last (suc (suc k)) g h e = absurd (omega arith)
+
+-- both votes
+pub votes-two : (re im : List Float) (k : ℕ) (s z w r t : Complex Float) → k < 2 → s ≡ votesTo f32 k (sample f32 re im) 0 → z ≡ voteAt re im k 0 → r ≡ plus f32 s z
+    → w ≡ voteAt re im k 1 → t ≡ plus f32 r w → t ≡ voteSums f32 2 k (sample f32 re im)
+votes-two re im k s z w r t h e Z R W T = vote-next re im k 1 r t w (vote-next re im k 0 s r z e Z R) W T ∙ votes-all f32 2 k 2 (sample f32 re im) h refl

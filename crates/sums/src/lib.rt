@@ -81,3 +81,12 @@ pub fn vote_sums(m: u32, k: u32, re: &[f32], im: &[f32]) -> Sums
     }
     s
 }
+
+// Both sums of the two votes for coefficient k in four samples: at index 0, and at the one whose partner is the last.
+pub fn four_sums(k: u32, re: &[f32], im: &[f32]) -> Sums
+    requires { ⌜ Samples 2 (now re) (now im) × (k < 2) ⌝ }
+    ensures { λ r. ⌜ pair r ≡ voteSums f32 2 k (sample f32 (now (re .entry)) (now (im .entry))) ⌝ }
+{
+    let s = add(Sums { re: 0.0, im: 0.0 }, vote_at(2, k, 0, 0, re, im));
+    add(s, vote_at(2, k, 1, 3 - questions::pow2(k), re, im))
+}

@@ -48,14 +48,6 @@ pub turns-below : (k : ℕ) (found t : List ℕ) → Turns k found t → (i : �
 turns-below k found t f i l = rw (f .each i l) (mod-lt _ (omega arith))
 
 -- ---- the samples turned back
--- three quarter turns, or what the code takes for them
-pub turn-rest : (t : ℕ) (x y : Float) → (t ≡ 0 → ⊥) → (t ≡ 1 → ⊥) → (t ≡ 2 → ⊥) → turnBack f32 t (complex x y) ≡ complex (neg y) x
-unfolding turnBack
-turn-rest zero x y a b c = absurd (a refl)
-turn-rest (suc zero) x y a b c = absurd (b refl)
-turn-rest (suc (suc zero)) x y a b c = absurd (c refl)
-turn-rest (suc (suc (suc t))) x y a b c = refl
-
 -- the four signed parts in a table
 pub turn-table : (t : ℕ) (x y : Float) → t < 4
     → complex (getD (x ∷ y ∷ neg x ∷ neg y ∷ []) t nan) (getD (x ∷ y ∷ neg x ∷ neg y ∷ []) (bitAnd (t + 1) 3) nan) ≡ turnBack f32 t (complex x y)

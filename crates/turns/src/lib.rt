@@ -19,20 +19,8 @@ pub fn quarter_turns(m: u32, found: &[u8], turns: &mut [u8])
     codeword::write(4, m, found, turns);
 }
 
-// The sample (x, y) turned back by t quarter turns.
+// The sample (x, y) turned back by t quarter turns, by a table of the four signed parts: there is no branch that the turns could mislead.
 fn turn_back(t: u8, x: f32, y: f32) -> Sums
-    ensures { λ r. ⌜ pair r ≡ turnBack f32 t (complex x y) ⌝ }
-{
-    match t {
-        0 => Sums { re: x, im: y },
-        1 => Sums { re: y, im: -x },
-        2 => Sums { re: -x, im: -y },
-        _ => Sums { re: -y, im: x },
-    }
-}
-
-// The same by a table of the four signed parts: there is no branch that the turns of many samples could mislead.
-fn turn_by_table(t: u8, x: f32, y: f32) -> Sums
     requires { ⌜ t < 4 ⌝ }
     ensures { λ r. ⌜ pair r ≡ turnBack f32 t (complex x y) ⌝ }
 {
@@ -44,23 +32,12 @@ fn turn_by_table(t: u8, x: f32, y: f32) -> Sums
     }
 }
 
-// The sample turned back in the way that suits few or many samples.
-fn turn(many: bool, t: u8, x: f32, y: f32) -> Sums
-    requires { ⌜ t < 4 ⌝ }
-    ensures { λ r. ⌜ pair r ≡ turnBack f32 t (complex x y) ⌝ }
-{
-    if many {
-        return turn_by_table(t, x, y);
-    }
-    turn_back(t, x, y)
-}
-
 // The sample at index i turned back by its quarter turns.
-fn turned(many: bool, i: usize, turns: &[u8], re: &[f32], im: &[f32]) -> Sums
+fn turned(i: usize, turns: &[u8], re: &[f32], im: &[f32]) -> Sums
     requires { ⌜ (i < length (now turns)) × (i < length (now re)) × (i < length (now im)) × (at (now turns) i < 4) ⌝ }
     ensures { λ r. ⌜ pair r ≡ turnBack f32 (at (now (turns .entry)) i) (sample f32 (now (re .entry)) (now (im .entry)) i) ⌝ }
 {
-    turn(many, turns[i], sums::part(re, i), sums::part(im, i))
+    turn_back(turns[i], sums::part(re, i), sums::part(im, i))
 }
 
 // Both sums of all samples, each turned back by its quarter turns, upward: two at a time.
@@ -69,11 +46,10 @@ pub fn constant_sums(m: u32, found: &[u8], turns: &[u8], re: &[f32], im: &[f32])
     ensures { λ r. ⌜ pair r ≡ constantSums f32 m (coefficientsIn (now (found .entry))) (sample f32 (now (re .entry)) (now (im .entry))) ⌝ }
 {
     let mut all = Sums { re: 0.0, im: 0.0 };
-    let many = m > 4;
     for b in 0..re.len() / 2 {
         let i = 2 * b;
-        all = sums::add(all, turned(many, i, turns, re, im));
-        all = sums::add(all, turned(many, i + 1, turns, re, im));
+        all = sums::add(all, turned(i, turns, re, im));
+        all = sums::add(all, turned(i + 1, turns, re, im));
     }
     all
 }

@@ -1,8 +1,7 @@
--- `decision` meets its contract, by the test of the two magnitudes.
-use mathlib.Core.Path.{_∙_}
-use mathlib.Core.Bool.{true, false}
+-- `decision` meets its contract: sure by the magnitudes, and the symbol of the larger one.
 use Rattle.sums.specs.Pair.{pair}
-use Rattle.decisions.proofs.Floats.{decided}
+use Rattle.decisions.specs.Voted.{voted}
+use Rattle.decisions.proofs.Floats.{by-unsure, by-sure}
 use borrow.Author.Needs.{needs}
 use Rattle.decisions.proofs.decision.Statement.{statement}
 use Rattle.decisions.proofs.decision.Tie as tie
@@ -13,25 +12,32 @@ size-of-requires c κs = search needs
 size-of-requires-2 : tie.Need-size-of-requires-2
 size-of-requires-2 c κs = search needs
 
-decide-by-requires : tie.Need-decide-by-requires
-decide-by-requires c κs = search needs
+is-clear-requires : tie.Need-is-clear-requires
+is-clear-requires c κs = search needs
 
 returns : tie.Need-returns
-unfolding pair
+unfolding voted pair
 returns c =
-    let t = c .before .before in
-    let s = t .before .before in
-    c .decide-by .ensures ∙ decided (t .before .size-of .result) (t .size-of2 .result) (pair (s .args .s)) true (t .before .size-of .ensures) (t .size-of2 .ensures) (c .before .if1 .taken)
+    let t = c .before in
+    let m = t .before in
+    by-unsure (pair (m .before .before .args .s)) (m .before .size-of .result) (m .size-of2 .result) (t .is-clear .result) (m .before .size-of .ensures) (m .size-of2 .ensures) (t .is-clear .ensures) (c .if1 .taken)
 
-decide-by-requires-2 : tie.Need-decide-by-requires-2
-decide-by-requires-2 c κs = search needs
+by-sign-requires : tie.Need-by-sign-requires
+by-sign-requires c κs = search needs
+
+by-sign-requires-2 : tie.Need-by-sign-requires-2
+by-sign-requires-2 c κs = search needs
+
+pick-requires : tie.Need-pick-requires
+pick-requires c κs = search needs
 
 returns-2 : tie.Need-returns-2
-unfolding pair
+unfolding voted pair
 returns-2 c =
-    let t = c .before .before in
-    let s = t .before .before in
-    c .decide-by2 .ensures ∙ decided (t .before .size-of .result) (t .size-of2 .result) (pair (s .args .s)) false (t .before .size-of .ensures) (t .size-of2 .ensures) (c .before .if1 .left)
+    let i = c .before .before .before in
+    let t = i .before in
+    let m = t .before in
+    by-sure (pair (m .before .before .args .s)) (m .before .size-of .result) (m .size-of2 .result) (t .is-clear .result) (m .before .size-of .ensures) (m .size-of2 .ensures) (t .is-clear .ensures) (i .if1 .left) (c .before .before .by-sign .result) (c .before .by-sign2 .result) (c .pick .result) (c .before .before .by-sign .ensures) (c .before .by-sign2 .ensures) (c .pick .ensures)
 
 pub decision-spec : {M : Type 1} → statement M
 decision-spec =
@@ -39,7 +45,9 @@ decision-spec =
     (tie.spec
     size-of-requires
     size-of-requires-2
-    decide-by-requires
+    is-clear-requires
     returns
-    decide-by-requires-2
+    by-sign-requires
+    by-sign-requires-2
+    pick-requires
     returns-2)

@@ -16,10 +16,10 @@ use Rattle.turns.proofs.constant_sums.Statement.{statement}
 use Rattle.turns.proofs.constant_sums.Tie as tie
 
 abbrev Inv-loop : tie.InvT-loop
-Inv-loop m found turns re im all₀ many b₀ b-end all b = (b ≤ b-end) × (b-end ≡ length re / 2) × (pair all ≡ backTo f32 m (coefficientsIn found) (sample f32 re im) (2 * b))
+Inv-loop m found turns re im all₀ b₀ b-end all b = (b ≤ b-end) × (b-end ≡ length re / 2) × (pair all ≡ backTo f32 m (coefficientsIn found) (sample f32 re im) (2 * b))
 
 abbrev μ-loop : tie.MeasureT-loop
-μ-loop m found turns re im all₀ many b₀ b-end all b = b-end - b
+μ-loop m found turns re im all₀ b₀ b-end all b = b-end - b
 
 loop-holds : tie.Need-loop-holds Inv-loop μ-loop
 unfolding pair
