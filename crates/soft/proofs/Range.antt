@@ -1,15 +1,17 @@
 -- Question 10 part after part. Assumes nothing.
-use Prim.Native.Nat.{ℕ, _+_}
-use mathlib.Core.Path.{_≡_, refl, ap, ap₂, _∙_}
+use Prim.Native.Nat.{ℕ, _+_, _^_}
+use mathlib.Core.Path.{_≡_, refl, ap, ap₂, sym, _∙_}
 use mathlib.Core.Bool.{Bool, true, false, _&&_}
 use mathlib.Core.List.{List}
 use native.Mathlib.Numerals.{add-one}
+use native.Mathlib.Omega.{arith}
 use lib.IntN.{pos}
 use lib.ListN.{length, getD}
 use lib.Ieee.{Float, binary32, ofBits, ofInt, neg, le}
 use Rattle.theory.specs.Sum.{every}
 use Rattle.samples.specs.Numbers.{f32}
 use Rattle.samples.specs.Soft.{inRange, allInRange}
+use Rattle.soft.specs.Work.{rangeTo}
 
 top-bits : ofBits binary32 1123942400 ≡ ofInt binary32 (pos 127)
 unfolding ofBits ofInt
@@ -18,10 +20,6 @@ top-bits = refl
 pub in-range : (x : Float) → (le (neg (ofBits binary32 1123942400)) x && le x (ofBits binary32 1123942400)) ≡ inRange f32 x
 unfolding inRange
 in-range x = ap (λ t. le (neg t) x && le x t) top-bits
-
--- whether the first i parts are in range
-unfoldable pub rangeTo : List Float → ℕ → Bool
-rangeTo x i = every i (λ j. inRange f32 (getD x j (ofInt binary32 (pos 0))))
 
 range-none : (x : List Float) → true ≡ rangeTo x 0
 unfolding rangeTo every
@@ -57,10 +55,35 @@ range-all x i f = rw f
 pub range-both : (x y : List Float) (i : ℕ) (all : Bool) → all ≡ (rangeTo x i && rangeTo y i) → i ≡ length x → i ≡ length y → all ≡ (allInRange f32 x && allInRange f32 y)
 range-both x y i all e f g = e ∙ ap₂ _&&_ (range-all x i f) (range-all y i g)
 
--- four parts
-pub range-four : (x : List Float) (a b c d : Float) (A B C D : Bool) → 4 ≡ length x → a ≡ getD x 0 (ofInt binary32 (pos 0)) → A ≡ inRange f32 a
-    → b ≡ getD x 1 (ofInt binary32 (pos 0)) → B ≡ inRange f32 b → c ≡ getD x 2 (ofInt binary32 (pos 0)) → C ≡ inRange f32 c
-    → d ≡ getD x 3 (ofInt binary32 (pos 0)) → D ≡ inRange f32 d → (((A && B) && C) && D) ≡ allInRange f32 x
-range-four x a b c d A B C D e ea eA eb eB ec eC ed eD =
-    next x 3 ((A && B) && C) D d (next x 2 (A && B) C c (next x 1 A B b (next x 0 true A a (range-none x) ea eA) eb eB) ec eC) ed eD
-    ∙ range-all x 4 e
+and-swap : (a b c : Bool) → (a && (b && c)) ≡ ((a && b) && c)
+and-swap true b c = refl
+and-swap false b c = refl
+
+-- four parts more
+pub range-four : (x : List Float) (i : ℕ) (a b c d : Float) (A B C D : Bool) → a ≡ getD x i (ofInt binary32 (pos 0)) → A ≡ inRange f32 a
+    → b ≡ getD x (i + 1) (ofInt binary32 (pos 0)) → B ≡ inRange f32 b → c ≡ getD x (i + 2) (ofInt binary32 (pos 0)) → C ≡ inRange f32 c
+    → d ≡ getD x (i + 3) (ofInt binary32 (pos 0)) → D ≡ inRange f32 d → (rangeTo x i && (((A && B) && C) && D)) ≡ rangeTo x (i + 4)
+range-four x i a b c d A B C D ea eA eb eB ec eC ed eD =
+    and-swap r ((A && B) && C) D
+    ∙ ap (λ t. t && D) (and-swap r (A && B) C ∙ ap (λ t. t && C) (and-swap r A B))
+    ∙ next x (i + 3) _ D d (third ∙ ap (rangeTo x) (omega arith)) ed eD
+    ∙ ap (rangeTo x) (omega arith)
+  where
+    r : Bool
+    r = rangeTo x i
+
+    third : (((rangeTo x i && A) && B) && C) ≡ rangeTo x (i + 2 + 1)
+    third =
+        next x (i + 2) _ C c (next x (i + 1) _ B b (next x i (rangeTo x i) A a refl ea eA) eb eB ∙ ap (rangeTo x) (omega arith)) ec eC
+
+-- a span after another
+pub range-more : (x : List Float) (i j k : ℕ) (a b : Bool) → (rangeTo x i && a) ≡ rangeTo x j → (rangeTo x j && b) ≡ rangeTo x k → (rangeTo x i && (a && b)) ≡ rangeTo x k
+range-more x i j k a b e f = and-swap (rangeTo x i) a b ∙ ap (λ t. t && b) e ∙ f
+
+-- a span of all parts
+pub range-span : (x : List Float) (n : ℕ) (a : Bool) → (rangeTo x 0 && a) ≡ rangeTo x n → n ≡ length x → a ≡ allInRange f32 x
+range-span x n a e f = ap (λ t. t && a) (range-none x) ∙ e ∙ range-all x n f
+
+-- the number of samples of a known order
+pub order-size : (m n : ℕ) → m ≡ n → 2 ^ m ≡ 2 ^ n
+order-size m n e = ap (λ k. 2 ^ k) e

@@ -1,16 +1,16 @@
 -- The questions as the code asks them, and what a yes to all of them says. Assumes nothing.
 use Prim.Native.Nat.{ℕ, zero, suc, _+_, _^_, _≤_, _<_}
-use mathlib.Core.Path.{_≡_, refl, ap, sym, _∙_}
+use mathlib.Core.Path.{_≡_, refl, ap, ap₂, sym, _∙_}
 use mathlib.Core.Bool.{Bool, true, false, not, cond, _&&_}
 use mathlib.Core.List.{List}
 use native.Mathlib.Numerals.{add-one}
 use native.Mathlib.Omega.{arith}
-use borrow.Author.Tests.{eqb-true, ltb-true, eq-eqb, ne-eqb, le-ltb, lt-ltb}
+use borrow.Author.Tests.{not-true, not-false, eqb-true, ltb-true, eq-eqb, ne-eqb, le-ltb, lt-ltb}
 use lib.Dec.{eqb, ltb}
 use lib.ListN.{length}
 use lib.Ieee.{Float}
 use Rattle.theory.specs.Question.{ask, isOrder}
-use Rattle.theory.proofs.QuestionLaws.{ask-yes, order-bounds}
+use Rattle.theory.proofs.QuestionLaws.{and-true, ask-yes, order-bounds}
 use Rattle.samples.specs.Numbers.{f32}
 use Rattle.samples.specs.Complex.{Complex, sample}
 use Rattle.samples.specs.Decision.{refused, decide}
@@ -26,54 +26,41 @@ yes : (b : Bool) (n rest : ℕ) → b ≡ true → rest ≡ ask b n rest
 unfolding ask
 yes b n rest e = rw e
 
--- ---- questions 7 and 10
-module _ (m n : ℕ) (re im : List Float) (p : n ≡ 2 ^ m) where
-  size-no : (x : List Float) → (length x ≡ n → ⊥) → eqb (length x) (2 ^ m) ≡ false
-  size-no x h = ne-eqb _ _ (λ e. h (e ∙ sym p))
+-- ---- question 7 as the code asks it: n is the size
+pub sizes-are : (m n : ℕ) (re im : List Float) (a : Bool) → n ≡ 2 ^ m → eqb (length re) n ≡ a → (a && eqb (length im) n) ≡ (eqb (length re) (2 ^ m) && eqb (length im) (2 ^ m))
+sizes-are m n re im a p e = ap₂ _&&_ (sym e ∙ ap (eqb (length re)) p) (ap (eqb (length im)) p)
 
-  size-yes : (x : List Float) → length x ≡ n → eqb (length x) (2 ^ m) ≡ true
-  size-yes x h = eq-eqb _ _ (h ∙ p)
+-- ---- questions 7 and 10, with the answers t and b that the code has
+module _ (m : ℕ) (re im : List Float) (t : Bool) (T : t ≡ (eqb (length re) (2 ^ m) && eqb (length im) (2 ^ m))) where
+  pub not-sized : not t ≡ true → (rest : ℕ) → 7 ≡ ask (eqb (length re) (2 ^ m)) 7 (ask (eqb (length im) (2 ^ m)) 7 rest)
+  unfolding ask
+  not-sized h rest = go (eqb (length re) (2 ^ m)) (eqb (length im) (2 ^ m)) (sym T ∙ not-true t h)
+    where
+      go : (a b : Bool) → (a && b) ≡ false → 7 ≡ ask a 7 (ask b 7 rest)
+      go false b e = refl
+      go true false e = refl
+      go true true e = let z : _≡_ {A = ℕ} 1 0 = ap (λ x. cond x 1 0) e in absurd (omega arith)
 
-  pub slice-re : (length re ≡ n → ⊥) → 7 ≡ sliceRefusal m re im
+  both-sized : not t ≡ false → (eqb (length re) (2 ^ m) ≡ true) × (eqb (length im) (2 ^ m) ≡ true)
+  both-sized h = and-true (eqb (length re) (2 ^ m)) (eqb (length im) (2 ^ m)) (sym T ∙ not-false t h)
+
+  pub sized : not t ≡ false → (rest : ℕ) → rest ≡ ask (eqb (length re) (2 ^ m)) 7 (ask (eqb (length im) (2 ^ m)) 7 rest)
+  sized h rest = let (a, b) = both-sized h in yes _ 7 _ b ∙ yes _ 7 _ a
+
+  pub sizes : not t ≡ false → (length re ≡ 2 ^ m) × (length im ≡ 2 ^ m)
+  sizes h = let (a, b) = both-sized h in (eqb-true _ _ a, eqb-true _ _ b)
+
+  pub slice-no : not t ≡ true → 7 ≡ sliceRefusal m re im
   unfolding sliceRefusal
-  slice-re h = no _ 7 _ (size-no re h)
+  slice-no h = not-sized h _
 
-  pub slice-im : length re ≡ n → (length im ≡ n → ⊥) → 7 ≡ sliceRefusal m re im
-  unfolding sliceRefusal
-  slice-im e h = no _ 7 _ (size-no im h) ∙ yes _ 7 _ (size-yes re e)
-
-  pub slice-range : length re ≡ n → length im ≡ n → (b t : Bool) → b ≡ (allInRange f32 re && allInRange f32 im) → not b ≡ t → cond t 10 0 ≡ sliceRefusal m re im
+  pub slice-range : not t ≡ false → (b u : Bool) → b ≡ (allInRange f32 re && allInRange f32 im) → not b ≡ u → cond u 10 0 ≡ sliceRefusal m re im
   unfolding sliceRefusal ask
-  slice-range e f b t g h = asked b t h ∙ ap (λ u. ask u 10 0) g ∙ yes _ 7 _ (size-yes im f) ∙ yes _ 7 _ (size-yes re e)
+  slice-range h b u g e = asked b u e ∙ ap (λ v. ask v 10 0) g ∙ sized h _
     where
-      asked : (b t : Bool) → not b ≡ t → cond t 10 0 ≡ ask b 10 0
-      asked true t h = ap (λ u. cond u 10 0) (sym h)
-      asked false t h = ap (λ u. cond u 10 0) (sym h)
-
--- a no to one of them comes first
-module _ (m : ℕ) (re im : List Float) (rest : ℕ) where
-  abbrev slicesThen : ℕ
-  slicesThen = ask (eqb (length re) (2 ^ m)) 7 (ask (eqb (length im) (2 ^ m)) 7 (ask (allInRange f32 re && allInRange f32 im) 10 rest))
-
-  slices-no : (n : ℕ) → n ≡ sliceRefusal m re im → (n ≡ 0 → ⊥) → n ≡ slicesThen
-  unfolding sliceRefusal ask
-  slices-no n e h = go (eqb (length re) (2 ^ m)) (eqb (length im) (2 ^ m)) (allInRange f32 re && allInRange f32 im) e
-    where
-      go : (a b c : Bool) → n ≡ ask a 7 (ask b 7 (ask c 10 0)) → n ≡ ask a 7 (ask b 7 (ask c 10 rest))
-      go false b c e = e
-      go true false c e = e
-      go true true false e = e
-      go true true true e = absurd (h e)
-
-  slices-yes : (n : ℕ) → n ≡ sliceRefusal m re im → n ≡ 0 → rest ≡ slicesThen
-  unfolding sliceRefusal ask
-  slices-yes n e h = go (eqb (length re) (2 ^ m)) (eqb (length im) (2 ^ m)) (allInRange f32 re && allInRange f32 im) (sym e ∙ h)
-    where
-      go : (a b c : Bool) → ask a 7 (ask b 7 (ask c 10 0)) ≡ 0 → rest ≡ ask a 7 (ask b 7 (ask c 10 rest))
-      go false b c e = absurd (omega arith)
-      go true false c e = absurd (omega arith)
-      go true true false e = absurd (omega arith)
-      go true true true e = refl
+      asked : (b u : Bool) → not b ≡ u → cond u 10 0 ≡ ask b 10 0
+      asked true u e = ap (λ v. cond v 10 0) (sym e)
+      asked false u e = ap (λ v. cond v 10 0) (sym e)
 
 -- ---- one soft vote
 module _ (m k : ℕ) (re im : List Float) where
@@ -81,21 +68,26 @@ module _ (m k : ℕ) (re im : List Float) where
   unfolding voteRefusal
   vote-order e = no _ 2 _ e
 
-  pub vote-slices : isOrder m ≡ true → (n : ℕ) → n ≡ sliceRefusal m re im → (n ≡ 0 → ⊥) → n ≡ voteRefusal f32 m k re im
-  unfolding voteRefusal
-  vote-slices e n f h = slices-no m re im _ n f h ∙ yes _ 2 _ e
-
-  -- the last question
-  module _ (e : isOrder m ≡ true) (n : ℕ) (f : n ≡ sliceRefusal m re im) (h : n ≡ 0) where
-    last : ask (ltb k m) 12 0 ≡ voteRefusal f32 m k re im
+  module _ (o : isOrder m ≡ true) (t : Bool) (T : t ≡ (eqb (length re) (2 ^ m) && eqb (length im) (2 ^ m))) where
+    pub vote-size : not t ≡ true → 7 ≡ voteRefusal f32 m k re im
     unfolding voteRefusal
-    last = slices-yes m re im _ n f h ∙ yes _ 2 _ e
+    vote-size h = not-sized m re im t T h _ ∙ yes _ 2 _ o
 
-    pub vote-no : m ≤ k → 12 ≡ voteRefusal f32 m k re im
-    vote-no l = no _ 12 0 (le-ltb k m l) ∙ last
+    module _ (h : not t ≡ false) (b : Bool) (B : b ≡ (allInRange f32 re && allInRange f32 im)) where
+      pub vote-range : not b ≡ true → 10 ≡ voteRefusal f32 m k re im
+      unfolding voteRefusal
+      vote-range e = no _ 10 _ (sym B ∙ not-true b e) ∙ sized m re im t T h _ ∙ yes _ 2 _ o
 
-    pub vote-yes : k < m → 0 ≡ voteRefusal f32 m k re im
-    vote-yes l = yes _ 12 0 (lt-ltb k m l) ∙ last
+      -- the last question
+      last : not b ≡ false → ask (ltb k m) 12 0 ≡ voteRefusal f32 m k re im
+      unfolding voteRefusal
+      last e = yes _ 10 _ (sym B ∙ not-false b e) ∙ sized m re im t T h _ ∙ yes _ 2 _ o
+
+      pub vote-no : not b ≡ false → m ≤ k → 12 ≡ voteRefusal f32 m k re im
+      vote-no e l = no _ 12 0 (le-ltb k m l) ∙ last e
+
+      pub vote-yes : not b ≡ false → k < m → 0 ≡ voteRefusal f32 m k re im
+      vote-yes e l = yes _ 12 0 (lt-ltb k m l) ∙ last e
 
   pub vote-accepted : voteRefusal f32 m k re im ≡ 0 → Samples m re im × (k < m)
   unfolding voteRefusal

@@ -4,14 +4,18 @@ use Prim.Native.Nat.{ℕ, suc, _^_, _<_}
 use mathlib.Core.Bool.{Bool, _&&_}
 use mathlib.Core.List.{List}
 use lib.Dec.{eqb}
-use lib.ListN.{length}
+use lib.ListN.{length, getD}
 use lib.Ieee.{Float}
 use Rattle.theory.specs.Sum.{at, every}
 use Rattle.theory.specs.Question.{ask, isOrder}
 use Rattle.samples.specs.Numbers.{f32}
 use Rattle.samples.specs.Complex.{sample}
 use Rattle.samples.specs.Decision.{Decision, decide, isSure}
-use Rattle.samples.specs.Soft.{voteSums, coefficient, constantSums, allInRange}
+use Rattle.samples.specs.Soft.{voteSums, coefficient, constantSums, inRange, allInRange}
+
+-- whether the first i parts of x are in range
+unfoldable pub rangeTo : List Float → ℕ → Bool
+rangeTo x i = every i (λ j. inRange f32 (getD x j (f32 .number 0)))
 
 -- questions 7 and 10
 unfoldable pub sliceRefusal : ℕ → List Float → List Float → ℕ

@@ -3,7 +3,8 @@ use decisions::SoftVote;
 use sums::Sums;
 ghost use mathlib.Core.Path.{_≡_};
 ghost use mathlib.Core.Bool.{true, _&&_};
-ghost use Prim.Native.Nat.{suc, _≤_};
+ghost use Prim.Native.Nat.{suc, _+_, _^_, _≤_};
+ghost use lib.Dec.{eqb};
 ghost use lib.ListN.{length, getD, take};
 ghost use Rattle.theory.specs.Sum.{at};
 ghost use Rattle.samples.specs.Numbers.{f32};
@@ -12,7 +13,7 @@ ghost use Rattle.sums.specs.Work.{Samples};
 ghost use Rattle.rows.specs.Work.{AllSums};
 ghost use Rattle.decisions.specs.Voted.{voted};
 ghost use Rattle.soft.specs.Answers.{softAnswered};
-ghost use Rattle.soft.specs.Work.{sliceRefusal, sampleRefusal, sureTo, Found, constantDecision};
+ghost use Rattle.soft.specs.Work.{rangeTo, sliceRefusal, sampleRefusal, sureTo, Found, constantDecision};
 
 // What the soft read answers.
 pub enum SoftRead {
@@ -27,15 +28,31 @@ fn in_range(x: f32) -> bool
     (-127.0 <= x) & (x <= 127.0)
 }
 
-// Question 10 for four parts.
-fn four_in_range(x: &[f32]) -> bool
-    requires { ⌜ length (now x) ≡ 4 ⌝ }
+// Question 10 for the four parts from index i on.
+fn four_in_range(x: &[f32], i: usize) -> bool
+    requires { ⌜ i + 4 ≤ length (now x) ⌝ }
+    ensures { λ r. ⌜ (rangeTo (now (x .entry)) i && r) ≡ rangeTo (now (x .entry)) (i + 4) ⌝ }
+{
+    in_range(sums::part(x, i))
+        & in_range(sums::part(x, i + 1))
+        & in_range(sums::part(x, i + 2))
+        & in_range(sums::part(x, i + 3))
+}
+
+// For eight.
+fn eight_in_range(x: &[f32], i: usize) -> bool
+    requires { ⌜ i + 8 ≤ length (now x) ⌝ }
+    ensures { λ r. ⌜ (rangeTo (now (x .entry)) i && r) ≡ rangeTo (now (x .entry)) (i + 8) ⌝ }
+{
+    four_in_range(x, i) & four_in_range(x, i + 4)
+}
+
+// For sixteen, which are all.
+fn sixteen_in_range(x: &[f32]) -> bool
+    requires { ⌜ length (now x) ≡ 16 ⌝ }
     ensures { λ r. ⌜ r ≡ allInRange f32 (now (x .entry)) ⌝ }
 {
-    in_range(sums::part(x, 0))
-        & in_range(sums::part(x, 1))
-        & in_range(sums::part(x, 2))
-        & in_range(sums::part(x, 3))
+    eight_in_range(x, 0) & eight_in_range(x, 8)
 }
 
 // Question 10 for both slices. No early exit: a refused slice is rare, and a test and a branch at each part cost more.
@@ -56,9 +73,32 @@ fn both_in_range(re: &[f32], im: &[f32]) -> bool
     ensures { λ r. ⌜ r ≡ (allInRange f32 (now (re .entry)) && allInRange f32 (now (im .entry))) ⌝ }
 {
     if re.len() == 4 {
-        return four_in_range(re) & four_in_range(im);
+        return four_in_range(re, 0) & four_in_range(im, 0);
     }
     all_in_range(re, im)
+}
+
+// Question 10 for one vote, with no loop up to sixteen samples: for so few the test takes as long as the votes.
+fn few_in_range(m: u32, re: &[f32], im: &[f32]) -> bool
+    requires { ⌜ (length (now re) ≡ 2 ^ m) × (length (now im) ≡ 2 ^ m) ⌝ }
+    ensures { λ r. ⌜ r ≡ (allInRange f32 (now (re .entry)) && allInRange f32 (now (im .entry))) ⌝ }
+{
+    if m == 3 {
+        return eight_in_range(re, 0) & eight_in_range(im, 0);
+    }
+    if m == 4 {
+        return sixteen_in_range(re) & sixteen_in_range(im);
+    }
+    both_in_range(re, im)
+}
+
+// Question 7 for both slices.
+fn are_sized(m: u32, re: &[f32], im: &[f32]) -> bool
+    requires { ⌜ m ≤ 8 ⌝ }
+    ensures { λ r. ⌜ r ≡ (eqb (length (now (re .entry))) (2 ^ m) && eqb (length (now (im .entry))) (2 ^ m)) ⌝ }
+{
+    let n = questions::pow2(m);
+    re.len() == n && im.len() == n
 }
 
 // Questions 7 and 10.
@@ -66,11 +106,7 @@ fn slice_refusal(m: u32, re: &[f32], im: &[f32]) -> u32
     requires { ⌜ m ≤ 8 ⌝ }
     ensures { λ r. ⌜ r ≡ sliceRefusal m (now (re .entry)) (now (im .entry)) ⌝ }
 {
-    let n = questions::pow2(m);
-    if re.len() != n {
-        return 7;
-    }
-    if im.len() != n {
+    if !are_sized(m, re, im) {
         return 7;
     }
     if !both_in_range(re, im) {
@@ -86,9 +122,11 @@ fn vote_refusal(m: u32, k: u32, re: &[f32], im: &[f32]) -> u32
     if !questions::is_order(m) {
         return 2;
     }
-    let number = slice_refusal(m, re, im);
-    if number != 0 {
-        return number;
+    if !are_sized(m, re, im) {
+        return 7;
+    }
+    if !few_in_range(m, re, im) {
+        return 10;
     }
     if m <= k {
         return 12;

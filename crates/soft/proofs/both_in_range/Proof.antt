@@ -1,18 +1,22 @@
 -- `both_in_range` meets its contract, by the answers for both slices.
-use mathlib.Core.Path.{ap₂}
+use mathlib.Core.Path.{ap₂, sym, _∙_}
 use mathlib.Core.Bool.{_&&_}
+use native.Mathlib.Omega.{arith}
 use borrow.Author.Needs.{needs}
+use Rattle.soft.proofs.Range.{range-span}
 use Rattle.soft.proofs.both_in_range.Statement.{statement}
 use Rattle.soft.proofs.both_in_range.Tie as tie
 
 four-in-range-requires : tie.Need-four-in-range-requires
-four-in-range-requires c κs = search needs
+four-in-range-requires c κs = omega arith
 
 four-in-range-requires-2 : tie.Need-four-in-range-requires-2
-four-in-range-requires-2 c κs = search needs
+four-in-range-requires-2 c κs = omega (arith, c .before .before .before .before .pre)
 
 returns : tie.Need-returns
-returns c = ap₂ _&&_ (c .before .four-in-range .ensures) (c .four-in-range2 .ensures)
+returns c =
+    let s = c .before .before .before .before .before in
+    ap₂ _&&_ (range-span _ 4 _ (c .before .four-in-range .ensures) (omega arith)) (range-span _ 4 _ (c .four-in-range2 .ensures) (omega (arith, s .pre)))
 
 all-in-range-requires : tie.Need-all-in-range-requires
 all-in-range-requires c κs = search needs
