@@ -1,7 +1,12 @@
 -- The soft answers as one number each, for a program that compares them.
 use Prim.Native.Nat.{ℕ, _+_}
+use mathlib.Core.Bool.{cond}
+use mathlib.Core.List.{List, [], _∷_}
+use lib.Dec.{eqb}
+use lib.ListN.{length}
 use lib.Ieee.{Float}
 use Rattle.theory.specs.Question.{Answer, accepted, refused}
+use Rattle.samples.specs.Complex.{Complex}
 use Rattle.samples.specs.Decision.{Decision, sure, unsure}
 use Rattle.samples.specs.Decision as D
 
@@ -10,6 +15,16 @@ unfoldable pub voteNumber : Decision Float → ℕ
 voteNumber (sure s z) = 100 + s
 voteNumber (unsure z) = 104
 voteNumber (D.refused n) = n
+
+-- a slice that both sums are put into: it has them where it is two long, else it is as it was
+unfoldable pub withSums : Complex Float → List Float → List Float
+withSums z l = cond (eqb (length l) 2) (z .re ∷ z .im ∷ []) l
+
+-- the slice of sums after a vote
+unfoldable pub voteSums : Decision Float → List Float → List Float
+voteSums (sure s z) l = withSums z l
+voteSums (unsure z) l = withSums z l
+voteSums (D.refused n) l = l
 
 -- the refusal number, or 100
 unfoldable pub readNumber : Answer → ℕ

@@ -5,10 +5,13 @@ use sums::Sums;
 ghost use mathlib.Core.Path.{_≡_};
 ghost use Rattle.samples.specs.Numbers.{f32};
 ghost use Rattle.samples.specs.Soft.{softVote, readAnswer, readMessage};
-ghost use Rattle.compare_soft_c.specs.Numbers.{voteNumber, readNumber};
+ghost use Rattle.sums.specs.Pair.{pair};
+ghost use Rattle.compare_soft_c.specs.Numbers.{voteNumber, withSums, voteSums, readNumber};
 
 // Puts the sums into a slice of two.
-fn store(s: Sums, sums: &mut [f32]) {
+fn store(s: Sums, sums: &mut [f32])
+    ensures { λ _. ⌜ now (sums .exit) ≡ withSums (pair s) (now (sums .entry)) ⌝ }
+{
     if sums.len() == 2 {
         sums[0] = s.re;
         sums[1] = s.im;
@@ -18,7 +21,8 @@ fn store(s: Sums, sums: &mut [f32]) {
 // One soft vote: the refusal number; or 100 + symbol for sure and 104 for unsure, with both sums in the slice of two.
 #[no_mangle]
 pub extern "C" fn compare_soft_vote(m: u32, k: u32, re: &[f32], im: &[f32], sums: &mut [f32]) -> u32
-    ensures { λ r. ⌜ r ≡ voteNumber (softVote f32 m k (now (re .entry)) (now (im .entry))) ⌝ }
+    ensures answer { λ r. ⌜ r ≡ voteNumber (softVote f32 m k (now (re .entry)) (now (im .entry))) ⌝ }
+    ensures buffer { λ r. ⌜ now (sums .exit) ≡ voteSums (softVote f32 m k (now (re .entry)) (now (im .entry))) (now (sums .entry)) ⌝ }
 {
     match soft::soft_vote(m, k, re, im) {
         SoftVote::Sure(symbol, s) => {

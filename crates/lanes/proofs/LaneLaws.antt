@@ -182,6 +182,10 @@ pub none-below : (q : ℕ) → isAlphabet q ≡ true → Below q 0
 none-below q al t h = omega (arith, none-lanes t h, alphabet-positive q al)
 
 -- the lane of a place, and the place of a lane
+pub offset-lt : (t : ℕ) → t < 16 → offset t < 16
+unfolding offset
+offset-lt t h = omega arith
+
 pub lane-lt : (i : ℕ) → i < 16 → laneOf i < 16
 unfolding laneOf
 lane-lt i h = omega arith

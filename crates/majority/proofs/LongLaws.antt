@@ -22,6 +22,7 @@ use Rattle.tally.proofs.CountLaws.{bounds}
 use Rattle.race.specs.Race.{Leads, together}
 use Rattle.race.proofs.RaceLaws.{leads-ext}
 use Rattle.lanes.specs.Lane.{offset, Low, Within, Packed, Loaded}
+use Rattle.lanes.proofs.LaneLaws.{offset-lt}
 use Rattle.poll.specs.Polled.{Votes, AheadOf}
 use Rattle.majority.specs.Elected.{Empty, LongCode, LongConstant}
 
@@ -31,10 +32,6 @@ sixteenth m h = let e : m ≡ 4 + (m - 4) = omega arith in ap (λ z. 2 ^ z) e �
 
 halves : (m : ℕ) → 5 ≤ m → 2 ^ (m - 4) ≡ 2 ^ (m - 5) + 2 ^ (m - 5)
 halves m h = let e : m - 4 ≡ suc (m - 5) = omega arith in omega (arith, ap (λ z. 2 ^ z) e)
-
-offset-lt : (t : ℕ) → t < 16 → offset t < 16
-unfolding offset
-offset-lt t h = omega arith
 
 -- the lanes of 0 are 0
 empty-lane : (x t : ℕ) → x ≡ 0 → digits.digit 4 x t ≡ 0

@@ -17,7 +17,7 @@ use Rattle.theory.proofs.VoteLaws.{votes-ext}
 use Rattle.digits.specs.Digit.{digit}
 use Rattle.lanes.specs.Lane.{offset, laneOf, Lanes, Held}
 use Rattle.lanes.specs.Ballot.{place, NearVotes}
-use Rattle.lanes.proofs.LaneLaws.{place-lane}
+use Rattle.lanes.proofs.LaneLaws.{offset-lt, place-lane}
 use Rattle.lanes.proofs.SpotLaws.{near-sum, offset-sum}
 use Rattle.leads.specs.Lead.{cast}
 use Rattle.margins.specs.Margins.{placeOf, placesOf, bothVotes}
@@ -99,10 +99,6 @@ module _ (q k f h x : ℕ) (hk : k < 4) (near : NearVotes q k f h x) where
 
   place-at : (i : ℕ) → i < 32 → at word i ≡ placesOf f h i
   place-at i l = tabulate-at 32 (placesOf f h) i l
-
-  offset-lt : (t : ℕ) → t < 16 → offset t < 16
-  unfolding offset
-  offset-lt t l = omega arith
 
   first-held : Held word 0 f
   first-held t l =
