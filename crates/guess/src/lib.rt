@@ -3,9 +3,10 @@
 // word, it is this one.
 ghost use mathlib.Core.Path.{_≡_};
 ghost use mathlib.Core.Bool.{true};
-ghost use Prim.Native.Nat.{ℕ, _+_, _%_, _<_};
+ghost use Prim.Native.Nat.{ℕ, _%_, _^_, _<_};
 ghost use Rattle.theory.specs.Question.{isAlphabet};
 ghost use Rattle.lanes.specs.Lane.{Below};
+ghost use Rattle.lanes.specs.Ballot.{laneBit};
 ghost use Rattle.sliced.specs.Most.{threeOf, sevenOf, fifteenOf};
 ghost use Rattle.guess.specs.Guess.{Rest, Chosen, message, GuessOf, GuessOfBoth};
 
@@ -25,28 +26,34 @@ fn symbol(q: u64, x: u64) -> u64
     x & (q - 1)
 }
 
-// The symbol that two or more of the lanes 0, a and b are.
-fn three(q: u64, d: u64, a: u32, b: u32) -> u64
-    requires { ⌜ (isAlphabet q ≡ true) × (a < 16) × (b < 16) ⌝ }
-    ensures { λ r. ⌜ Chosen q 2 (threeOf d a b) r ⌝ }
+// The symbol that two or more of three lanes are: those of the places 0, 2^i and 2^j.
+fn three(q: u64, d: u64, i: u32, j: u32) -> u64
+    requires { ⌜ (isAlphabet q ≡ true) × (i < 4) × (j < 4) ⌝ }
+    ensures { λ r. ⌜ Chosen q 2 (threeOf d (2 ^ laneBit i) (2 ^ laneBit j)) r ⌝ }
 {
-    symbol(q, sliced::most_of_3(d, a, b))
+    symbol(q, sliced::most_of_3(d, lanes::apart(i), lanes::apart(j)))
 }
 
-// The symbol that four or more of the seven lanes are.
-fn seven(q: u64, d: u64, a: u32, b: u32, c: u32) -> u64
-    requires { ⌜ (isAlphabet q ≡ true) × (a + b + c < 16) ⌝ }
-    ensures { λ r. ⌜ Chosen q 4 (sevenOf d a b c) r ⌝ }
+// The symbol that four or more of seven lanes are: those of the places with one or two of the bits i, j and k set, or none.
+fn seven(q: u64, d: u64, i: u32, j: u32, k: u32) -> u64
+    requires { ⌜ (isAlphabet q ≡ true) × (i < j) × (j < k) × (k < 4) ⌝ }
+    ensures { λ r. ⌜ Chosen q 4 (sevenOf d (2 ^ laneBit i) (2 ^ laneBit j) (2 ^ laneBit k)) r ⌝ }
 {
-    symbol(q, sliced::most_of_7(d, a, b, c))
+    symbol(
+        q,
+        sliced::most_of_7(d, lanes::apart(i), lanes::apart(j), lanes::apart(k)),
+    )
 }
 
-// The symbol that eight or more of the fifteen lanes are.
-fn fifteen(q: u64, d: u64, e: u64, a: u32, b: u32, c: u32) -> u64
-    requires { ⌜ (isAlphabet q ≡ true) × (a + b + c < 16) ⌝ }
-    ensures { λ r. ⌜ Chosen q 8 (fifteenOf d e a b c) r ⌝ }
+// The symbol that eight or more of fifteen lanes are: those seven of d, and the same of e with the one whose place has all three bits set.
+fn fifteen(q: u64, d: u64, e: u64, i: u32, j: u32, k: u32) -> u64
+    requires { ⌜ (isAlphabet q ≡ true) × (i < j) × (j < k) × (k < 4) ⌝ }
+    ensures { λ r. ⌜ Chosen q 8 (fifteenOf d e (2 ^ laneBit i) (2 ^ laneBit j) (2 ^ laneBit k)) r ⌝ }
 {
-    symbol(q, sliced::most_of_15(d, e, a, b, c))
+    symbol(
+        q,
+        sliced::most_of_15(d, e, lanes::apart(i), lanes::apart(j), lanes::apart(k)),
+    )
 }
 
 // The constant and the coefficients of a message; those past its order are 0.
@@ -64,8 +71,8 @@ pub fn guess_4(q: u64, x: u64) -> Guess
     requires { ⌜ (isAlphabet q ≡ true) × Below q x ⌝ }
     ensures { λ r. ⌜ (r .c2 ≡ 0) × (r .c3 ≡ 0) × (r .c4 ≡ 0) × GuessOf q 2 x (message (r .constant) (r .c0) (r .c1) (r .c2) (r .c3) (r .c4)) ⌝ }
 {
-    let c0 = symbol(q, lanes::ahead(q, 2, x));
-    let c1 = symbol(q, lanes::ahead(q, 4, x));
+    let c0 = symbol(q, lanes::ahead(q, 0, x));
+    let c1 = symbol(q, lanes::ahead(q, 1, x));
     Guess {
         constant: symbol(q, x),
         c0,
@@ -81,12 +88,12 @@ pub fn guess_8(q: u64, x: u64) -> Guess
     requires { ⌜ (isAlphabet q ≡ true) × Below q x ⌝ }
     ensures { λ r. ⌜ (r .c3 ≡ 0) × (r .c4 ≡ 0) × GuessOf q 3 x (message (r .constant) (r .c0) (r .c1) (r .c2) (r .c3) (r .c4)) ⌝ }
 {
-    let c0 = three(q, lanes::ahead(q, 2, x), 4, 8);
-    let c1 = three(q, lanes::ahead(q, 4, x), 2, 8);
-    let c2 = three(q, lanes::ahead(q, 8, x), 2, 4);
+    let c0 = three(q, lanes::ahead(q, 0, x), 1, 2);
+    let c1 = three(q, lanes::ahead(q, 1, x), 0, 2);
+    let c2 = three(q, lanes::ahead(q, 2, x), 0, 1);
     let left = rest(q, x, c0, c1, c2, 0);
     Guess {
-        constant: three(q, left, 2, 4),
+        constant: three(q, left, 0, 1),
         c0,
         c1,
         c2,
@@ -100,13 +107,13 @@ pub fn guess_16(q: u64, x: u64) -> Guess
     requires { ⌜ (isAlphabet q ≡ true) × Below q x ⌝ }
     ensures { λ r. ⌜ (r .c4 ≡ 0) × GuessOf q 4 x (message (r .constant) (r .c0) (r .c1) (r .c2) (r .c3) (r .c4)) ⌝ }
 {
-    let c0 = seven(q, lanes::ahead(q, 2, x), 4, 8, 1);
-    let c1 = seven(q, lanes::ahead(q, 4, x), 2, 8, 1);
-    let c2 = seven(q, lanes::ahead(q, 8, x), 2, 4, 1);
-    let c3 = seven(q, lanes::ahead(q, 1, x), 2, 4, 8);
+    let c0 = seven(q, lanes::ahead(q, 0, x), 1, 2, 3);
+    let c1 = seven(q, lanes::ahead(q, 1, x), 0, 2, 3);
+    let c2 = seven(q, lanes::ahead(q, 2, x), 0, 1, 3);
+    let c3 = seven(q, lanes::ahead(q, 3, x), 0, 1, 2);
     let left = rest(q, x, c0, c1, c2, c3);
     Guess {
-        constant: seven(q, left, 2, 4, 8),
+        constant: seven(q, left, 0, 1, 2),
         c0,
         c1,
         c2,
@@ -120,15 +127,16 @@ pub fn guess_32(q: u64, x: u64, y: u64) -> Guess
     requires { ⌜ (isAlphabet q ≡ true) × Below q x × Below q y ⌝ }
     ensures { λ r. ⌜ GuessOfBoth q 5 x y (message (r .constant) (r .c0) (r .c1) (r .c2) (r .c3) (r .c4)) ⌝ }
 {
-    let c0 = fifteen(q, lanes::ahead(q, 2, x), lanes::ahead(q, 2, y), 4, 8, 1);
-    let c1 = fifteen(q, lanes::ahead(q, 4, x), lanes::ahead(q, 4, y), 2, 8, 1);
-    let c2 = fifteen(q, lanes::ahead(q, 8, x), lanes::ahead(q, 8, y), 2, 4, 1);
-    let c3 = fifteen(q, lanes::ahead(q, 1, x), lanes::ahead(q, 1, y), 2, 4, 8);
+    let c0 = fifteen(q, lanes::ahead(q, 0, x), lanes::ahead(q, 0, y), 1, 2, 3);
+    let c1 = fifteen(q, lanes::ahead(q, 1, x), lanes::ahead(q, 1, y), 0, 2, 3);
+    let c2 = fifteen(q, lanes::ahead(q, 2, x), lanes::ahead(q, 2, y), 0, 1, 3);
+    let c3 = fifteen(q, lanes::ahead(q, 3, x), lanes::ahead(q, 3, y), 0, 1, 2);
+    // The partner of a place in x, for the last coefficient, stands in the same lane of y.
     let d = lanes::less(q, y, x);
-    let c4 = fifteen(q, d, d >> 4, 2, 4, 8);
+    let c4 = fifteen(q, d, lanes::partners(3, d), 0, 1, 2);
     let left = rest(q, x, c0, c1, c2, c3);
     Guess {
-        constant: fifteen(q, left, left >> 4, 2, 4, 8),
+        constant: fifteen(q, left, lanes::partners(3, left), 0, 1, 2),
         c0,
         c1,
         c2,

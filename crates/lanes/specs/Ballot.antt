@@ -7,14 +7,21 @@ use lib.Dec.{ltb}
 use lib.ListN.{length}
 use Rattle.theory.specs.Sum.{at}
 use Rattle.theory.specs.Index.{bit}
+use Rattle.theory.specs.Modular.{subMod}
 use Rattle.theory.specs.Vote.{vote}
 use Rattle.theory.specs.Question.{isAlphabet}
 use Rattle.theory.proofs.IndexLaws.{nthClear}
+use Rattle.digits.specs.Digit.{digit}
 use Rattle.lanes.specs.Lane.{offset, Lanes, Held, Packed, Within}
 
 -- the bit of a lane's number that is bit k of its place, k below 4
 unfoldable pub laneBit : ℕ → ℕ
 laneBit k = suc k % 4
+
+-- the lanes of d whose bit laneBit k is 0 are the votes for coefficient k of the places that x holds, and the others are 0
+pub record Ahead (q k x d : ℕ) : Type 0 where
+  pub votes : (t : ℕ) → t < 16 → bit (laneBit k) t ≡ 0 → digit 4 d t ≡ subMod q (digit 4 x (2 ^ laneBit k + t)) (digit 4 x t)
+  pub others : (t : ℕ) → t < 16 → bit (laneBit k) t ≡ 1 → digit 4 d t ≡ 0
 
 -- x where the bit b is 0, y where it is 1
 unfoldable pub either : ℕ → ℕ → ℕ → ℕ

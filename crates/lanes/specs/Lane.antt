@@ -1,11 +1,10 @@
--- Within in the lanes of numbers.
+-- Symbols in the lanes of numbers.
 use Prim.Native.Nat.{ℕ, _+_, _*_, _-_, _/_, _%_, _≤_, _<_}
 use mathlib.Core.Path.{_≡_}
 use mathlib.Core.List.{List}
 use lib.ListN.{length}
 use Rattle.theory.specs.Sum.{at}
 use Rattle.theory.specs.Index.{bit}
-use Rattle.theory.specs.Modular.{subMod}
 use Rattle.digits.specs.Digit.{digit}
 
 -- the place of lane t among the sixteen of a number: the even lanes hold the first eight places, the odd ones the second
@@ -39,10 +38,6 @@ Held w i x = Lanes x (λ t. at w (i + offset t))
 -- the first n numbers of x hold the first 16 n symbols of w
 abbrev pub Packed : ℕ → List ℕ → List ℕ → Type 0
 Packed n w x = (j : ℕ) → j < n → Held w (16 * j) (at x j)
-
--- the lanes of d are what those of x are behind the ones s lanes further on by, modulo q
-abbrev pub Ahead : ℕ → ℕ → ℕ → ℕ → Type 0
-Ahead q s x d = Lanes d (λ t. subMod q (digit 4 x (s + t)) (digit 4 x t))
 
 -- the lanes of r whose bit l is 0 are full, and no others
 abbrev pub ClearLanes : ℕ → ℕ → Type 0

@@ -1,5 +1,5 @@
-// The votes of a long word, sixteen at a time. Sixteen symbols stand in the four-bit lanes of one number: lane t of number j is place
-// 16 j + offset t of the word. The numbers of a word stand in a lent array of sixteen.
+// The votes of a word, sixteen places at a time. Sixteen symbols stand in the four-bit lanes of one number: lane t of number j is place
+// 16 j + offset t of the word. The numbers of a long word stand in a lent array of sixteen.
 ghost use mathlib.Core.Path.{_≡_};
 ghost use mathlib.Core.Bool.{true};
 ghost use Prim.Native.Nat.{ℕ, _+_, _*_, _/_, _^_, _<_, _≤_};
@@ -8,8 +8,8 @@ ghost use Rattle.theory.specs.Sum.{at};
 ghost use Rattle.theory.specs.Modular.{subMod};
 ghost use Rattle.theory.specs.Question.{isAlphabet};
 ghost use Rattle.digits.specs.Digit.{digit};
-ghost use Rattle.lanes.specs.Lane.{Lanes, Below, Within, Low, Held, Loaded, Ahead, ClearLanes, Blend};
-ghost use Rattle.lanes.specs.Ballot.{laneBit, NearVotes, Reach, BallotOf};
+ghost use Rattle.lanes.specs.Lane.{Lanes, Below, Within, Low, Held, Loaded, ClearLanes, Blend};
+ghost use Rattle.lanes.specs.Ballot.{laneBit, Ahead, NearVotes, Reach, BallotOf};
 
 // The lanes whose bit l is 0, filled with ones.
 fn clear(l: u32) -> u64
@@ -41,25 +41,12 @@ pub fn less(q: u64, y: u64, x: u64) -> u64
     (y + 0x8888_8888_8888_8888 - x) & ((q - 1) * 0x1111_1111_1111_1111)
 }
 
-// What each lane is behind the one s lanes further on by: the votes for the coefficient whose partners stand s lanes apart.
-pub fn ahead(q: u64, s: u32, x: u64) -> u64
-    requires { ⌜ (isAlphabet q ≡ true) × (s < 16) × Below q x ⌝ }
-    ensures { λ r. ⌜ Ahead q s x r ⌝ }
-{
-    less(q, x >> (4 * s), x)
-}
-
 // The bit of a lane's number that is bit k of its place, k below 4.
 fn lane_bit(k: u32) -> u32
     requires { ⌜ k < 4 ⌝ }
     ensures { λ r. ⌜ (r ≡ laneBit k) × (r < 4) ⌝ }
 {
-    match k {
-        0 => 1,
-        1 => 2,
-        2 => 3,
-        _ => 0,
-    }
+    (k + 1) & 3
 }
 
 // How many bits 2^l lanes have.
@@ -67,12 +54,32 @@ fn lane_step(l: u32) -> u32
     requires { ⌜ l < 4 ⌝ }
     ensures { λ r. ⌜ (r ≡ 4 * 2 ^ l) × (r < 64) ⌝ }
 {
-    match l {
-        0 => 4,
-        1 => 8,
-        2 => 16,
-        _ => 32,
-    }
+    4 << l
+}
+
+// How many lanes the partner of a place stands further on, for coefficient k.
+pub fn apart(k: u32) -> u32
+    requires { ⌜ k < 4 ⌝ }
+    ensures { λ r. ⌜ (r ≡ 2 ^ laneBit k) × (r < 16) ⌝ }
+{
+    1 << lane_bit(k)
+}
+
+// The lanes of x moved down, so that each stands in the lane of the place whose partner for coefficient k it is.
+pub fn partners(k: u32, x: u64) -> u64
+    requires { ⌜ k < 4 ⌝ }
+    ensures { λ r. ⌜ r ≡ x / 2 ^ (4 * 2 ^ laneBit k) ⌝ }
+{
+    x >> lane_step(lane_bit(k))
+}
+
+// The votes for coefficient k, below 4, of the places that one number holds: each in the lane of its place, whose bit k is 0; the other
+// lanes are 0.
+pub fn ahead(q: u64, k: u32, x: u64) -> u64
+    requires { ⌜ (isAlphabet q ≡ true) × (k < 4) × Below q x ⌝ }
+    ensures { λ r. ⌜ Ahead q k x r ⌝ }
+{
+    less(q, partners(k, x), x) & clear(lane_bit(k))
 }
 
 // Number i.

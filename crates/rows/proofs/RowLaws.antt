@@ -2,8 +2,8 @@
 use Prim.Native.Nat.{ℕ, zero, suc, _+_, _*_, _/_, _%_, _^_, _≤_, _<_}
 use mathlib.Core.Path.{_≡_, ap, ap₂, sym, _∙_, refl}
 use mathlib.Core.Bool.{Bool, true, false}
-use mathlib.Core.List.{List, [], _∷_}
-use native.Mathlib.Nat.{not-suc-le-zero, div-div-eq-div-mul}
+use mathlib.Core.List.{List, [], _∷_, _++_}
+use native.Mathlib.Nat.{zero-add, add-zero, not-suc-le-zero, le-of-suc-le-suc, div-div-eq-div-mul}
 use native.Mathlib.Omega.{arith}
 use borrow.Author.Count.{below-more}
 use borrow.Author.Tests.{leb-true, leb-false}
@@ -11,16 +11,17 @@ use lib.Dec.{leb}
 use lib.ListN.{length, getD, set, length-set}
 use lib.Pow.{pow-mono}
 use lib.Seq.{getD-set-same, getD-set-other}
-use lib.Ieee.{Float, binary32, ofBits}
+use lib.Ieee.{Float}
 use Rattle.theory.proofs.IndexLaws.{nthClear}
 use Rattle.samples.specs.Numbers.{f32}
 use Rattle.samples.specs.Complex.{Complex, sample, plus}
 use Rattle.samples.specs.Soft.{voteSums}
 use Rattle.samples.proofs.SumsLaws.{votesTo, votes-all}
-use Rattle.sums.specs.Pair.{complex}
+use Rattle.sums.specs.declared.Sums.{Sums}
+use Rattle.sums.specs.Pair.{pair, complex}
 use Rattle.sums.specs.Work.{Samples, voteAt}
-use Rattle.rows.specs.Work.{inRow, Put, Rows, votesOf, sumsOf, SumsTo, Stored, AllSums}
-use Rattle.sums.proofs.Steps.{zero-bits, votes-none, vote-next, even-samples}
+use Rattle.rows.specs.Work.{none, nones, zeros, held, inRow, Put, Rows, votesOf, sumsOf, Past, SumsTo, Stored, AllSums}
+use Rattle.sums.proofs.Steps.{votes-none, vote-next, even-samples}
 
 -- ---- four places on end stand at four indices on end
 quarter : (k j : ℕ) → nthClear (suc (suc k)) j ≡ j + j / 4 / 2 ^ k * 2 ^ suc (suc k)
@@ -85,36 +86,43 @@ pub row-next : (re im : List Float) (k b x : ℕ) (s r z : Complex Float) → s 
 row-next re im k b x s r z e Z R = vote-next re im k (8 * b + x) s r z e Z R ∙ ap (votesTo f32 k (sample f32 re im)) (omega arith)
 
 -- ---- sums stored one after the other
-module _ (f : ℕ → Complex Float) (low : ℕ) (sr si : List Float) where
-  pub stored-none : length sr ≡ 8 → length si ≡ 8 → Stored f low sr si sr si low
-  stored-none d e = record { reals = d; imaginaries = e; done = λ l a h. absurd (omega arith); rest = λ l h. refl }
+module _ (f : ℕ → Complex Float) (low : ℕ) (s : List Sums) where
+  pub stored-none : length s ≡ 8 → Stored f low s s low
+  stored-none e = record { size = e; done = λ l a h. absurd (omega arith); rest = λ l h. refl }
 
   -- one more, as the code stores it
-  pub stored-next : (ur ui vr vi : List Float) (k : ℕ) (v w : Float) → k < 8 → Stored f low sr si ur ui k → complex v w ≡ f k → (vr ≡ set ur k v) × (vi ≡ set ui k w)
-      → Stored f low sr si vr vi (k + 1)
-  unfolding sample
-  stored-next ur ui vr vi k v w h d e (p, q) = rw (p, q) record {
-    reals = length-set ur k v ∙ d .reals;
-    imaginaries = length-set ui k w ∙ d .imaginaries;
-    done = λ l a m. below-more (λ l. low ≤ l → sample f32 (set ur k v) (set ui k w) l ≡ f l) k
-        (λ l m a. other l (λ z. absurd (omega (arith, z))) ∙ d .done l a m)
-        (λ a. ap₂ complex (getD-set-same ur k v _ (omega (arith, d .reals))) (getD-set-same ui k w _ (omega (arith, d .imaginaries))) ∙ e) l m a;
-    rest = λ l m. other l (λ z. absurd (omega (arith, z))) ∙ d .rest l (omega arith);
+  pub stored-next : (u : List Sums) (k : ℕ) (z : Sums) → k < 8 → Stored f low s u k → pair z ≡ f k → Stored f low s (set u k z) (k + 1)
+  unfolding held
+  stored-next u k z h d e = record {
+    size = length-set u k z ∙ d .size;
+    done = λ l a m. below-more (λ l. low ≤ l → held (set u k z) l ≡ f l) k
+        (λ l m a. other l (λ y. absurd (omega (arith, y))) ∙ d .done l a m)
+        (λ a. ap pair (getD-set-same u k z _ (omega (arith, d .size))) ∙ e) l m a;
+    rest = λ l m. other l (λ y. absurd (omega (arith, y))) ∙ d .rest l (omega arith);
   }
     where
-      other : (l : ℕ) → (l ≡ k → ⊥) → sample f32 (set ur k v) (set ui k w) l ≡ sample f32 ur ui l
-      other l n = ap₂ complex (getD-set-other ur k l v _ n) (getD-set-other ui k l w _ n)
+      other : (l : ℕ) → (l ≡ k → ⊥) → held (set u k z) l ≡ held u l
+      other l n = ap pair (getD-set-other u k l z _ n)
 
-  pub stored-all : (ur ui : List Float) (k m : ℕ) → k ≡ m → Stored f low sr si ur ui k → Stored f low sr si ur ui m
-  stored-all ur ui k m e d = rw e at d
+  pub stored-all : (u : List Sums) (k m : ℕ) → k ≡ m → Stored f low s u k → Stored f low s u m
+  stored-all u k m e d = rw e at d
+
+-- what the code read at l is what s holds there
+pub held-is : (s : List Sums) (l : ℕ) (d : Sums) → l < length s → pair (getD s l d) ≡ held s l
+unfolding held
+held-is [] l d h = absurd (not-suc-le-zero h)
+held-is (x ∷ s) zero d h = refl
+held-is (x ∷ s) (suc l) d h = held-is s l d (le-of-suc-le-suc h)
 
 module _ (m : ℕ) (re im : List Float) where
   -- the sums of the rows
-  pub sums-more : (b k : ℕ) (sr si ur ui : List Float) → k ≡ m → Stored (votesOf re im (8 * (b + 1))) 2 sr si ur ui k → SumsTo re im (8 * (b + 1)) ur ui m
-  sums-more b k sr si ur ui e d = let t : SumsTo re im (8 * (b + 1)) ur ui k = record { reals = d .reals; imaginaries = d .imaginaries; each = d .done } in rw e at t
+  pub sums-more : (b k : ℕ) (s u : List Sums) → k ≡ m → Past m s → Stored (votesOf re im (8 * (b + 1))) 2 s u k → SumsTo re im (8 * (b + 1)) u m
+  sums-more b k s u e p d =
+      let t = stored-all (votesOf re im (8 * (b + 1))) 2 s u k m e d in
+      record { rest = record { size = t .size; past = λ l h. t .rest l h ∙ p .past l h }; each = t .done }
 
-  pub sums-blocks : (b : ℕ) (sr si : List Float) → Samples m re im → 4 ≤ m → b ≡ length re / 16 → SumsTo re im (8 * b) sr si m → SumsTo re im (length re / 2) sr si m
-  sums-blocks b sr si s h e d = let f : 8 * b ≡ length re / 2 = halves m h (e ∙ ap (λ n. n / 16) (s .reals)) ∙ ap (λ n. n / 2) (sym (s .reals)) in rw f at d
+  pub sums-blocks : (b : ℕ) (s : List Sums) → Samples m re im → 4 ≤ m → b ≡ length re / 16 → SumsTo re im (8 * b) s m → SumsTo re im (length re / 2) s m
+  sums-blocks b s S h e d = let f : 8 * b ≡ length re / 2 = halves m h (e ∙ ap (λ n. n / 16) (S .reals)) ∙ ap (λ n. n / 2) (sym (S .reals)) in rw f at d
     where
       halves : (m : ℕ) → 4 ≤ m → b ≡ 2 ^ m / 16 → 8 * b ≡ 2 ^ m / 2
       halves zero h e = absurd (omega arith)
@@ -123,75 +131,66 @@ module _ (m : ℕ) (re im : List Float) where
       halves (suc (suc (suc zero))) h e = absurd (omega arith)
       halves (suc (suc (suc (suc m)))) h e = omega arith
 
-  -- all sums, by the two ways
-  all-low : (sr si ur ui : List Float) → Stored (sumsOf m re im) 0 sr si ur ui m → AllSums m re im ur ui
-  unfolding sumsOf
-  all-low sr si ur ui d = record { reals = d .reals; imaginaries = d .imaginaries; each = λ l h. d .done l (omega arith) h }
-
-  all-both : (sr si ur ui : List Float) → Samples m re im → SumsTo re im (length re / 2) sr si m → Stored (sumsOf m re im) 0 sr si ur ui 2 → AllSums m re im ur ui
+  -- all sums
+  pub all-both : (s u : List Sums) → Samples m re im → SumsTo re im (length re / 2) s m → Stored (sumsOf m re im) 0 s u 2 → AllSums m re im u
   unfolding sumsOf votesOf
-  all-both sr si ur ui s t d = record { reals = d .reals; imaginaries = d .imaginaries; each = λ l h. each l h (leb 2 l) refl }
+  all-both s u S t d = record {
+    rest = record { size = d .size; past = λ l h. d .rest l (omega (arith, h, S .low)) ∙ t .rest .past l h };
+    each = λ l h. each l h (leb 2 l) refl;
+  }
     where
-      each : (l : ℕ) → l < m → (c : Bool) → leb 2 l ≡ c → sample f32 ur ui l ≡ voteSums f32 m l (sample f32 re im)
-      each l h true c = d .rest l (leb-true 2 l c) ∙ t .each l (leb-true 2 l c) h ∙ votes-all f32 m l (length re / 2) (sample f32 re im) h (even-samples m re (length re / 2) s refl)
+      each : (l : ℕ) → l < m → (c : Bool) → leb 2 l ≡ c → held u l ≡ voteSums f32 m l (sample f32 re im)
+      each l h true c = d .rest l (leb-true 2 l c) ∙ t .each l (leb-true 2 l c) h ∙ votes-all f32 m l (length re / 2) (sample f32 re im) h (even-samples m re (length re / 2) S refl)
       each l h false c = d .done l (omega arith) (leb-false 2 l c)
 
-  pub all-by : (end : ℕ) (sr si ur ui : List Float) → Samples m re im → (m < 5 → end ≡ m) → (5 ≤ m → end ≡ 2) → (5 ≤ m → SumsTo re im (length re / 2) sr si m)
-      → Stored (sumsOf m re im) 0 sr si ur ui end → AllSums m re im ur ui
-  all-by end sr si ur ui s few many t d = go (leb 5 m) refl
-    where
-      go : (c : Bool) → leb 5 m ≡ c → AllSums m re im ur ui
-      go true c = let l = leb-true 5 m c in all-both sr si ur ui s (t l) (stored-all (sumsOf m re im) 0 sr si ur ui end 2 (many l) d)
-      go false c = all-low sr si ur ui (stored-all (sumsOf m re im) 0 sr si ur ui end m (few (leb-false 5 m c)) d)
+-- ---- no sums
+rest-held : (n l : ℕ) → held (nones n) l ≡ pair none
+unfolding held nones
+rest-held zero l = refl
+rest-held (suc n) zero = refl
+rest-held (suc n) (suc l) = rest-held n l
 
--- ---- sixteen samples
--- all votes of sixteen samples: eight
-pub votes-eight : (re im : List Float) (k j : ℕ) (s : Complex Float) → k < 4 → s ≡ votesOf re im j k → j ≡ 8 → s ≡ sumsOf 4 re im k
+pub past-zero : (m : ℕ) (s : List Sums) → s ≡ zeros → Past m s
+unfolding nones
+past-zero m s e = rw e record { size = refl; past = λ l h. rest-held 8 l }
+
+pub sums-zero : (re im : List Float) (m : ℕ) (s : List Sums) → s ≡ zeros → SumsTo re im 0 s m
+unfolding votesOf pair
+sums-zero re im m s e = record { rest = past-zero m s e; each = λ l a h. ap (λ t. held t l) e ∙ rest-held 8 l ∙ votes-none re im l }
+
+-- ---- few samples: all sums at the front of the array
+-- the sums of x are those that f gives from k on
+abbrev pub Are : List Sums → (ℕ → Complex Float) → ℕ → Type 0
+Are [] f k = Unit {0}
+Are (x ∷ s) f k = (pair x ≡ f k) × Are s f (suc k)
+
+front-held : (s : List Sums) (n k l : ℕ) (f : ℕ → Complex Float) → Are s f k → l < length s → held (s ++ nones n) l ≡ f (k + l)
+unfolding held
+front-held [] n k l f a h = absurd (not-suc-le-zero h)
+front-held (x ∷ s) n k zero f a h = a .0 ∙ ap f (sym (add-zero k))
+front-held (x ∷ s) n k (suc l) f a h = front-held s n (suc k) l f (a .1) (le-of-suc-le-suc h) ∙ ap f (omega arith)
+
+front-past : (s : List Sums) (n l : ℕ) → length s ≤ l → held (s ++ nones n) l ≡ pair none
+unfolding held
+front-past [] n l h = rest-held n l
+front-past (x ∷ s) n zero h = absurd (not-suc-le-zero h)
+front-past (x ∷ s) n (suc l) h = front-past s n l (le-of-suc-le-suc h)
+
+pub front-all : (m n : ℕ) (re im : List Float) (s : List Sums) → length s ≡ m → length (s ++ nones n) ≡ 8 → Are s (sumsOf m re im) 0 → AllSums m re im (s ++ nones n)
+unfolding sumsOf
+front-all m n re im s e size a = record {
+  rest = record { size = size; past = λ l h. front-past s n l (omega (arith, e)) };
+  each = λ l h. front-held s n 0 l (sumsOf m re im) a (omega (arith, e)) ∙ ap (sumsOf m re im) (zero-add l);
+}
+
+-- all votes are half as many as the samples
+pub votes-done : (m : ℕ) (re im : List Float) (k j : ℕ) (s : Complex Float) → k < m → s ≡ votesOf re im j k → 2 * j ≡ 2 ^ m → s ≡ sumsOf m re im k
 unfolding votesOf sumsOf
-votes-eight re im k j s h e f = e ∙ votes-all f32 4 k j (sample f32 re im) h (omega (arith, f))
+votes-done m re im k j s h e f = e ∙ votes-all f32 m k j (sample f32 re im) h f
 
--- their sums, stored one after the other
-pub four-put : (re im sr si r1 i1 r2 i2 r3 i3 r4 i4 : List Float) (v0 w0 v1 w1 v2 w2 v3 w3 : Float) → length sr ≡ 8 → length si ≡ 8
-    → (r1 ≡ set sr 0 v0) × (i1 ≡ set si 0 w0) → (r2 ≡ set r1 1 v1) × (i2 ≡ set i1 1 w1) → (r3 ≡ set r2 2 v2) × (i3 ≡ set i2 2 w2) → (r4 ≡ set r3 3 v3) × (i4 ≡ set i3 3 w3)
-    → (complex v0 w0 ≡ sumsOf 4 re im 0) × (complex v1 w1 ≡ sumsOf 4 re im 1) × (complex v2 w2 ≡ sumsOf 4 re im 2) × (complex v3 w3 ≡ sumsOf 4 re im 3) → AllSums 4 re im r4 i4
-four-put re im sr si r1 i1 r2 i2 r3 i3 r4 i4 v0 w0 v1 w1 v2 w2 v3 w3 r i e1 e2 e3 e4 (a, b, c, d) =
-    let f = sumsOf 4 re im in
-    let s1 = stored-next f 0 sr si sr si r1 i1 0 v0 w0 (omega arith) (stored-none f 0 sr si r i) a e1 in
-    let s2 = stored-next f 0 sr si r1 i1 r2 i2 1 v1 w1 (omega arith) s1 b e2 in
-    let s3 = stored-next f 0 sr si r2 i2 r3 i3 2 v2 w2 (omega arith) s2 c e3 in
-    all-low 4 re im sr si r4 i4 (stored-next f 0 sr si r3 i3 r4 i4 3 v3 w3 (omega arith) s3 d e4)
-
--- ---- four samples
--- both sums, stored one after the other
-pub two-put : (re im sr si r1 i1 r2 i2 : List Float) (v0 w0 v1 w1 : Float) → length sr ≡ 8 → length si ≡ 8
-    → (r1 ≡ set sr 0 v0) × (i1 ≡ set si 0 w0) → (r2 ≡ set r1 1 v1) × (i2 ≡ set i1 1 w1) → complex v0 w0 ≡ sumsOf 2 re im 0 → complex v1 w1 ≡ sumsOf 2 re im 1 → AllSums 2 re im r2 i2
-two-put re im sr si r1 i1 r2 i2 v0 w0 v1 w1 r i e1 e2 a b =
-    let f = sumsOf 2 re im in
-    let s1 = stored-next f 0 sr si sr si r1 i1 0 v0 w0 (omega arith) (stored-none f 0 sr si r i) a e1 in
-    all-low 2 re im sr si r2 i2 (stored-next f 0 sr si r1 i1 r2 i2 1 v1 w1 (omega arith) s1 b e2)
-
+-- ---- by the order
 pub samples-by : (m n : ℕ) (re im : List Float) → m ≡ n → Samples m re im → Samples n re im
 samples-by m n re im e s = rw e at s
 
-pub all-of : (n m : ℕ) (re im sr si : List Float) → n ≡ m → AllSums n re im sr si → AllSums m re im sr si
-all-of n m re im sr si e a = rw e at a
-
--- ---- no votes yet
--- eight zeros, as the code makes them
-abbrev pub zeros : List Float
-zeros = let o = ofBits binary32 0 in o ∷ o ∷ o ∷ o ∷ o ∷ o ∷ o ∷ o ∷ []
-
-pub sums-zero : (re im : List Float) (m : ℕ) → SumsTo re im 0 zeros zeros m
-unfolding votesOf sample
-sums-zero re im m = record { reals = refl; imaginaries = refl; each = λ l a h. ap₂ complex (held l) (held l) ∙ votes-none re im l }
-  where
-    held : (l : ℕ) → getD zeros l (f32 .number 0) ≡ ofBits binary32 0
-    held zero = refl
-    held (suc zero) = refl
-    held (suc (suc zero)) = refl
-    held (suc (suc (suc zero))) = refl
-    held (suc (suc (suc (suc zero)))) = refl
-    held (suc (suc (suc (suc (suc zero))))) = refl
-    held (suc (suc (suc (suc (suc (suc zero)))))) = refl
-    held (suc (suc (suc (suc (suc (suc (suc zero))))))) = refl
-    held (suc (suc (suc (suc (suc (suc (suc (suc l)))))))) = sym zero-bits
+pub all-of : (n m : ℕ) (re im : List Float) (s : List Sums) → n ≡ m → AllSums n re im s → AllSums m re im s
+all-of n m re im s e a = rw e at a

@@ -1,24 +1,15 @@
-// The sums of the votes for every coefficient at once, q = 4: many samples by rows of eight votes, sixteen samples in one loop, four with
-// no loop.
+// The sums of the votes for every coefficient at once, q = 4: many samples by rows of eight votes, eight or sixteen samples in one loop,
+// four with no loop.
 use sums::Sums;
 ghost use mathlib.Core.Path.{_≡_};
 ghost use Prim.Native.Nat.{_+_, _*_, _/_, _<_, _≤_};
-ghost use lib.ListN.{length, set};
+ghost use lib.ListN.{length};
 ghost use Rattle.samples.specs.Numbers.{f32};
 ghost use Rattle.samples.specs.Complex.{sample};
 ghost use Rattle.samples.proofs.SumsLaws.{votesTo};
 ghost use Rattle.sums.specs.Pair.{pair};
 ghost use Rattle.sums.specs.Work.{Samples};
-ghost use Rattle.rows.specs.Work.{Put, Rows, SumsTo, votesOf, sumsOf, Stored, AllSums};
-
-// Puts the sums s into place k.
-fn store(k: usize, s: Sums, sr: &mut [f32], si: &mut [f32])
-    requires { ⌜ (k < length (now sr)) × (k < length (now si)) ⌝ }
-    ensures { λ _. ⌜ (now (sr .exit) ≡ set (now (sr .entry)) k (s .re)) × (now (si .exit) ≡ set (now (si .entry)) k (s .im)) ⌝ }
-{
-    sr[k] = s.re;
-    si[k] = s.im;
-}
+ghost use Rattle.rows.specs.Work.{Put, Rows, zeros, SumsTo, votesOf, sumsOf, Stored, AllSums};
 
 // The votes at eight places of coefficient k from 8 b on, put into its row. Four places on end stand at four indices on end.
 fn put_row(m: u32, k: u32, b: usize, re: &[f32], im: &[f32], rows: &mut [f32])
@@ -61,141 +52,122 @@ fn add_row(m: u32, k: u32, b: usize, re: &[f32], im: &[f32], rows: &[f32], from:
     s
 }
 
-// The sums of all coefficients from 2 on with the votes of their rows more.
-fn add_rows(m: u32, b: usize, re: &[f32], im: &[f32], rows: &[f32], sr: &mut [f32], si: &mut [f32])
-    requires { ⌜ (2 ≤ m) × (m ≤ 8) × Rows (now re) (now im) b (now rows) m × SumsTo (now re) (now im) (8 * b) (now sr) (now si) m ⌝ }
-    ensures { λ _. ⌜ SumsTo (now (re .entry)) (now (im .entry)) (8 * (b + 1)) (now (sr .exit)) (now (si .exit)) m ⌝ }
-{
-    for k in 2..m {
-        let i = k as usize;
-        let from = Sums {
-            re: sums::part(sr, i),
-            im: sums::part(si, i),
-        };
-        let s = add_row(m, k, b, re, im, rows, from);
-        store(i, s, sr, si);
-    }
-}
-
 // The sums of all coefficients from 2 on, eight places of each at a time: the additions of one wait while others go on.
-fn high_sums(m: u32, re: &[f32], im: &[f32], rows: &mut [f32], sr: &mut [f32], si: &mut [f32])
-    requires { ⌜ Samples m (now re) (now im) × (4 ≤ m) × (length (now rows) ≡ 128) × SumsTo (now re) (now im) 0 (now sr) (now si) m ⌝ }
-    ensures { λ _. ⌜ SumsTo (now (re .entry)) (now (im .entry)) (length (now (re .entry)) / 2) (now (sr .exit)) (now (si .exit)) m ⌝ }
+fn high_sums(m: u32, re: &[f32], im: &[f32], rows: &mut [f32], from: [Sums; 8]) -> [Sums; 8]
+    requires { ⌜ Samples m (now re) (now im) × (4 ≤ m) × (length (now rows) ≡ 128) × SumsTo (now re) (now im) 0 from m ⌝ }
+    ensures { λ r. ⌜ SumsTo (now (re .entry)) (now (im .entry)) (length (now (re .entry)) / 2) r m ⌝ }
 {
+    let mut all = from;
     for b in 0..re.len() / 16 {
         put_rows(m, b, re, im, rows);
-        add_rows(m, b, re, im, rows, sr, si);
+        for k in 2..m {
+            let i = k as usize;
+            let s = all[i];
+            all[i] = add_row(m, k, b, re, im, rows, s);
+        }
     }
+    all
 }
 
-// The sums of the coefficients below end, one after the other.
-fn low_sums(m: u32, end: u32, re: &[f32], im: &[f32], sr: &mut [f32], si: &mut [f32])
-    requires { ⌜ Samples m (now re) (now im) × (end ≤ m) × (length (now sr) ≡ 8) × (length (now si) ≡ 8) ⌝ }
-    ensures { λ _. ⌜ Stored (sumsOf m (now (re .entry)) (now (im .entry))) 0 (now (sr .entry)) (now (si .entry)) (now (sr .exit)) (now (si .exit)) end ⌝ }
+// The sums of the first two coefficients, one after the other, put before those that are there.
+fn low_sums(m: u32, re: &[f32], im: &[f32], from: [Sums; 8]) -> [Sums; 8]
+    requires { ⌜ Samples m (now re) (now im) × (length from ≡ 8) ⌝ }
+    ensures { λ r. ⌜ Stored (sumsOf m (now (re .entry)) (now (im .entry))) 0 from r 2 ⌝ }
 {
-    for k in 0..end {
-        let s = sums::vote_sums(m, k, re, im);
-        store(k as usize, s, sr, si);
+    let mut all = from;
+    for k in 0..2u32 {
+        let i = k as usize;
+        all[i] = sums::vote_sums(m, k, re, im);
     }
+    all
 }
 
-// The sums of all coefficients from 2 on where there are more than sixteen samples; else they are left as they are.
-fn many_sums(m: u32, re: &[f32], im: &[f32], sr: &mut [f32], si: &mut [f32])
-    requires { ⌜ Samples m (now re) (now im) × SumsTo (now re) (now im) 0 (now sr) (now si) m ⌝ }
-    ensures { λ _. ⌜ (length (now (sr .exit)) ≡ 8) × (length (now (si .exit)) ≡ 8)
-        × (5 ≤ m → SumsTo (now (re .entry)) (now (im .entry)) (length (now (re .entry)) / 2) (now (sr .exit)) (now (si .exit)) m) ⌝ }
+// No sums yet.
+fn no_sums() -> [Sums; 8]
+    ensures { λ r. ⌜ r ≡ zeros ⌝ }
 {
-    if m < 5 {
-        return;
-    }
+    let none = Sums { re: 0.0, im: 0.0 };
+    [none; 8]
+}
+
+// The sums of all coefficients where there are more than sixteen samples.
+fn many_sums(m: u32, re: &[f32], im: &[f32]) -> [Sums; 8]
+    requires { ⌜ Samples m (now re) (now im) × (5 ≤ m) ⌝ }
+    ensures { λ r. ⌜ AllSums m (now (re .entry)) (now (im .entry)) r ⌝ }
+{
     let mut rows = [0.0f32; 128];
-    high_sums(m, re, im, &mut rows, sr, si);
+    let high = high_sums(m, re, im, &mut rows, no_sums());
+    low_sums(m, re, im, high)
 }
 
-// How many coefficients are summed one after the other: the first two where there are more than sixteen samples, else all.
-fn low_end(m: u32) -> u32
-    requires { ⌜ 2 ≤ m ⌝ }
-    ensures { λ r. ⌜ (r ≤ m) × (m < 5 → r ≡ m) × (5 ≤ m → r ≡ 2) ⌝ }
-{
-    if m < 5 { m } else { 2 }
-}
-
-// The sums of coefficient k in sixteen samples with the vote at place j more.
-fn more(k: u32, j: usize, s: Sums, re: &[f32], im: &[f32]) -> Sums
-    requires { ⌜ Samples 4 (now re) (now im) × (k < 4) × (j < 8) × (pair s ≡ votesOf (now re) (now im) j k) ⌝ }
+// The sums of coefficient k with the vote at place j more.
+fn more(m: u32, k: u32, j: usize, s: Sums, re: &[f32], im: &[f32]) -> Sums
+    requires { ⌜ Samples m (now re) (now im) × (k < m) × (j < length (now re) / 2) × (pair s ≡ votesOf (now re) (now im) j k) ⌝ }
     ensures { λ r. ⌜ pair r ≡ votesOf (now (re .entry)) (now (im .entry)) (j + 1) k ⌝ }
 {
-    sums::add(s, sums::vote_at(4, k, j, tally::nth_clear(k, j), re, im))
-}
-
-// The sums of four coefficients.
-struct FourSums {
-    zeroth: Sums,
-    first: Sums,
-    second: Sums,
-    third: Sums,
+    sums::add(s, sums::vote_at(m, k, j, tally::nth_clear(k, j), re, im))
 }
 
 // The sums of the votes in sixteen samples, for all coefficients at once: the additions of one wait while others go on.
-fn sixteen_sums(re: &[f32], im: &[f32]) -> FourSums
+fn sixteen_sums(re: &[f32], im: &[f32]) -> [Sums; 8]
     requires { ⌜ Samples 4 (now re) (now im) ⌝ }
-    ensures { λ r. ⌜ (pair (r .zeroth) ≡ sumsOf 4 (now (re .entry)) (now (im .entry)) 0) × (pair (r .first) ≡ sumsOf 4 (now (re .entry)) (now (im .entry)) 1)
-        × (pair (r .second) ≡ sumsOf 4 (now (re .entry)) (now (im .entry)) 2) × (pair (r .third) ≡ sumsOf 4 (now (re .entry)) (now (im .entry)) 3) ⌝ }
+    ensures { λ r. ⌜ AllSums 4 (now (re .entry)) (now (im .entry)) r ⌝ }
 {
-    let mut a = Sums { re: 0.0, im: 0.0 };
-    let mut b = Sums { re: 0.0, im: 0.0 };
-    let mut c = Sums { re: 0.0, im: 0.0 };
-    let mut d = Sums { re: 0.0, im: 0.0 };
+    let none = Sums { re: 0.0, im: 0.0 };
+    let mut a = none;
+    let mut b = none;
+    let mut c = none;
+    let mut d = none;
     for j in 0..8usize {
-        a = more(0, j, a, re, im);
-        b = more(1, j, b, re, im);
-        c = more(2, j, c, re, im);
-        d = more(3, j, d, re, im);
+        a = more(4, 0, j, a, re, im);
+        b = more(4, 1, j, b, re, im);
+        c = more(4, 2, j, c, re, im);
+        d = more(4, 3, j, d, re, im);
     }
-    FourSums {
-        zeroth: a,
-        first: b,
-        second: c,
-        third: d,
-    }
+    [a, b, c, d, none, none, none, none]
 }
 
-// The sums of all coefficients of sixteen samples.
-fn put_sixteen(re: &[f32], im: &[f32], sr: &mut [f32], si: &mut [f32])
-    requires { ⌜ Samples 4 (now re) (now im) × (length (now sr) ≡ 8) × (length (now si) ≡ 8) ⌝ }
-    ensures { λ _. ⌜ AllSums 4 (now (re .entry)) (now (im .entry)) (now (sr .exit)) (now (si .exit)) ⌝ }
+// The same for eight samples.
+fn eight_sums(re: &[f32], im: &[f32]) -> [Sums; 8]
+    requires { ⌜ Samples 3 (now re) (now im) ⌝ }
+    ensures { λ r. ⌜ AllSums 3 (now (re .entry)) (now (im .entry)) r ⌝ }
 {
-    let s = sixteen_sums(re, im);
-    store(0, s.zeroth, sr, si);
-    store(1, s.first, sr, si);
-    store(2, s.second, sr, si);
-    store(3, s.third, sr, si);
+    let none = Sums { re: 0.0, im: 0.0 };
+    let mut a = none;
+    let mut b = none;
+    let mut c = none;
+    for j in 0..4usize {
+        a = more(3, 0, j, a, re, im);
+        b = more(3, 1, j, b, re, im);
+        c = more(3, 2, j, c, re, im);
+    }
+    [a, b, c, none, none, none, none, none]
 }
 
 // The sums of both coefficients of four samples.
-fn put_four(re: &[f32], im: &[f32], sr: &mut [f32], si: &mut [f32])
-    requires { ⌜ Samples 2 (now re) (now im) × (length (now sr) ≡ 8) × (length (now si) ≡ 8) ⌝ }
-    ensures { λ _. ⌜ AllSums 2 (now (re .entry)) (now (im .entry)) (now (sr .exit)) (now (si .exit)) ⌝ }
+fn both_sums(re: &[f32], im: &[f32]) -> [Sums; 8]
+    requires { ⌜ Samples 2 (now re) (now im) ⌝ }
+    ensures { λ r. ⌜ AllSums 2 (now (re .entry)) (now (im .entry)) r ⌝ }
 {
-    let zeroth = sums::four_sums(0, re, im);
-    store(0, zeroth, sr, si);
-    let first = sums::four_sums(1, re, im);
-    store(1, first, sr, si);
+    let none = Sums { re: 0.0, im: 0.0 };
+    let a = sums::four_sums(0, re, im);
+    let b = sums::four_sums(1, re, im);
+    [a, b, none, none, none, none, none, none]
 }
 
-// The sums of the votes for every coefficient, put into sr and si, which hold zeros.
-pub fn all_sums(m: u32, re: &[f32], im: &[f32], sr: &mut [f32], si: &mut [f32])
-    requires { ⌜ Samples m (now re) (now im) × SumsTo (now re) (now im) 0 (now sr) (now si) m ⌝ }
-    ensures { λ _. ⌜ AllSums m (now (re .entry)) (now (im .entry)) (now (sr .exit)) (now (si .exit)) ⌝ }
+// The sums of the votes for every coefficient; those past the last are zeros.
+pub fn all_sums(m: u32, re: &[f32], im: &[f32]) -> [Sums; 8]
+    requires { ⌜ Samples m (now re) (now im) ⌝ }
+    ensures { λ r. ⌜ AllSums m (now (re .entry)) (now (im .entry)) r ⌝ }
 {
     if m == 4 {
-        put_sixteen(re, im, sr, si);
-        return;
+        return sixteen_sums(re, im);
     }
     if m == 2 {
-        put_four(re, im, sr, si);
-        return;
+        return both_sums(re, im);
     }
-    many_sums(m, re, im, sr, si);
-    low_sums(m, low_end(m), re, im, sr, si);
+    if m == 3 {
+        return eight_sums(re, im);
+    }
+    many_sums(m, re, im)
 }

@@ -4,10 +4,12 @@ ghost use mathlib.Core.Path.{_≡_};
 ghost use Prim.Native.Nat.{ℕ, _<_};
 ghost use Rattle.theory.proofs.IndexLaws.{nthClear};
 
-// The j-th place whose bit k is 0: j with a 0 put in at bit k.
+// The j-th place whose bit k is 0: j with a 0 put in at bit k. The mask picks the bits below k, which stay where they are; the others move
+// up by one, that is, they count twice.
 pub fn nth_clear(k: u32, j: usize) -> usize
     requires { ⌜ (k < 8) × (j < 128) ⌝ }
     ensures { λ r. ⌜ r ≡ nthClear k j ⌝ }
 {
-    j + ((j >> k) << k)
+    let low = j & ((1 << k) - 1);
+    j + (j - low)
 }

@@ -1,23 +1,28 @@
--- `ahead` meets its contract: no lane stands past the sixteenth.
+-- `ahead` meets its contract: the mask keeps the votes.
+use Rattle.lanes.proofs.LaneLaws.{partners-below, ahead-is}
 use borrow.Author.Needs.{needs}
-use Rattle.lanes.proofs.LaneLaws.{down-below, ahead-is}
 use Rattle.lanes.proofs.ahead.Statement.{statement}
 use Rattle.lanes.proofs.ahead.Tie as tie
 
-mul-less : tie.Need-mul-less
-mul-less c = search needs
-
-cast-less : tie.Need-cast-less
-cast-less c = search needs
-
-shr-less : tie.Need-shr-less
-shr-less c = search needs
+partners-requires : tie.Need-partners-requires
+partners-requires c κs = search needs
 
 less-requires : tie.Need-less-requires
-less-requires c κs = (c .pre .0, down-below (c .args .q) (c .args .s) (c .args .x) (c .pre .0) (c .fits .x .fits) (c .pre .2), c .pre .2)
+less-requires c κs = search (needs, partners-below)
+
+lane-bit-requires : tie.Need-lane-bit-requires
+lane-bit-requires c κs = search needs
+
+clear-requires : tie.Need-clear-requires
+clear-requires c κs = search needs
 
 returns : tie.Need-returns
-returns c = let s = c .before in ahead-is (s .args .q) (s .args .s) (s .args .x) (c .less .result) (c .less .ensures)
+returns c =
+    let b = c .before in
+    let l = b .before in
+    let p = l .before in
+    let s = p .before in
+    ahead-is (s .args .q) (s .args .k) (s .args .x) (p .partners .result) (b .lane-bit .result) (c .clear .result) (l .less .result) (b .lane-bit .ensures .0) (p .partners .ensures) (c .clear .ensures) (l .less .ensures)
 
 pub ahead-spec : {M : Type 1} → statement M
-ahead-spec = tie.close (tie.spec mul-less cast-less shr-less less-requires returns)
+ahead-spec = tie.close (tie.spec partners-requires less-requires lane-bit-requires clear-requires returns)

@@ -1,5 +1,4 @@
 -- `ballot` meets its contract.
-use Prim.Native.Nat.{_+_, _*_}
 use native.Mathlib.Omega.{arith}
 use Rattle.lanes.proofs.BallotLaws.{number-below, near-ballot}
 use borrow.Author.Needs.{needs}
@@ -24,7 +23,7 @@ number-requires-2 c κs = search needs
 near-requires : tie.Need-near-requires
 near-requires c κs =
     let s = c .before .before .before in
-    (s .pre .alphabet, number-below (s .args .q) (s .args .x .now) (2 * s .args .j) _ (s .pre .symbols) (omega (arith, s .pre .few)) (c .before .number .ensures), number-below (s .args .q) (s .args .x .now) (2 * s .args .j + 1) _ (s .pre .symbols) (omega (arith, s .pre .few)) (c .number2 .ensures), omega arith)
+    (s .pre .alphabet, number-below _ (s .args .x .now) _ _ (s .pre .symbols) (omega (arith, s .pre .few)) (c .before .number .ensures), number-below _ (s .args .x .now) _ _ (s .pre .symbols) (omega (arith, s .pre .few)) (c .number2 .ensures), omega arith)
 
 returns : tie.Need-returns
 returns c =

@@ -14,9 +14,7 @@ number-requires-2 : tie.Need-number-requires-2
 number-requires-2 c κs = search needs
 
 less-requires : tie.Need-less-requires
-less-requires c κs =
-    let s = c .before .before in
-    (s .pre .0, number-below (s .args .q) (s .args .x .now) (s .args .j) _ (s .pre .2) (s .pre .1) (c .before .number .ensures), number-below (s .args .q) (s .args .y .now) (s .args .j) _ (s .pre .3) (s .pre .1) (c .number2 .ensures))
+less-requires c κs = search (needs, number-below)
 
 returns : tie.Need-returns
 returns c t h = c .less .ensures t h ∙ ap₂ (λ y x. subMod (c .before .before .before .args .q) (digit 4 y t) (digit 4 x t)) (c .before .before .number .ensures) (c .before .number2 .ensures)

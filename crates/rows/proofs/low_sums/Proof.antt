@@ -1,8 +1,6 @@
 -- `low_sums` meets its contract. The loop's invariant: the sums below k are stored.
 use Prim.Native.Nat.{_-_, _≤_}
-use mathlib.Core.Path.{sym, _∙_}
 use native.Mathlib.Omega.{arith}
-use Rattle.sums.specs.Pair.{pair}
 use Rattle.rows.specs.Work.{sumsOf, Stored}
 use Rattle.rows.proofs.RowLaws.{stored-none, stored-next, stored-all}
 use borrow.Author.Needs.{needs}
@@ -10,29 +8,25 @@ use Rattle.rows.proofs.low_sums.Statement.{statement}
 use Rattle.rows.proofs.low_sums.Tie as tie
 
 abbrev Inv-loop : tie.InvT-loop
-Inv-loop m end re im sr₀ si₀ k₀ sr si k = (k ≤ end) × Stored (sumsOf m re im) 0 sr₀ si₀ sr si k
+Inv-loop m re im all₀ k₀ all k = (k ≤ 2) × Stored (sumsOf m re im) 0 all₀ all k
 
 abbrev μ-loop : tie.MeasureT-loop
-μ-loop m end re im sr₀ si₀ k₀ sr si k = end - k
+μ-loop m re im all₀ k₀ all k = 2 - k
 
 loop-holds : tie.Need-loop-holds Inv-loop μ-loop
-loop-holds c =
-    let s = c .before .before .before .before in
-    (omega arith, stored-none _ _ _ _ (s .pre .2) (s .pre .3))
+loop-holds c = (omega arith, stored-none _ _ _ (c .before .before .pre .1))
+
+cast-i : tie.Need-cast-i Inv-loop μ-loop
+cast-i c = search needs
 
 vote-sums-requires : tie.Need-vote-sums-requires Inv-loop μ-loop
-vote-sums-requires c κs =
-    let s = c .before .before .before .before .before .before in
-    (s .pre .0, omega (arith, s .pre .1))
+vote-sums-requires c κs = let s = c .before .before .before .before in (s .pre .0, omega (arith, s .pre .0 .low))
 
-cast-store : tie.Need-cast-store Inv-loop μ-loop
-cast-store c = search needs
+mul-all : tie.Need-mul-all Inv-loop μ-loop
+mul-all c = search needs
 
-store-requires : tie.Need-store-requires Inv-loop μ-loop
-store-requires c κs =
-    let l = c .before .before .before .before in
-    let s = l .before .before .before .before .before in
-    omega (arith, l .loop .inv .1 .reals, l .loop .inv .1 .imaginaries, s .pre .1, s .pre .0 .high)
+array-set-from-all : tie.Need-array-set-from-all Inv-loop μ-loop
+array-set-from-all c = omega arith
 
 add-k : tie.Need-add-k Inv-loop μ-loop
 add-k c = search needs
@@ -41,22 +35,13 @@ loop-less : tie.Need-loop-less Inv-loop μ-loop
 loop-less c = search needs
 
 loop-again : tie.Need-loop-again Inv-loop μ-loop
-unfolding pair sumsOf
+unfolding sumsOf
 loop-again c =
-    let t = c .before .before .before .before in
-    let v = t .before .before .before in
-    let l = v .before .before in
-    let s = l .before .before .before .before .before in
-    (omega arith, stored-next _ _ _ _ _ _ _ _ (l .loop .k) _ _ (omega (arith, s .pre .1, s .pre .0 .high)) (l .loop .inv .1) (v .vote-sums .ensures) (t .store .ensures))
-
-same-length : tie.Need-same-length Inv-loop μ-loop
-same-length c = c .before .loop .inv .1 .reals ∙ sym (c .before .before .before .before .before .before .pre .2)
-
-same-length-2 : tie.Need-same-length-2 Inv-loop μ-loop
-same-length-2 c = c .before .loop .inv .1 .imaginaries ∙ sym (c .before .before .before .before .before .before .pre .3)
+    let l = c .before .before in
+    (omega arith, stored-next _ _ _ (l .loop .all) (l .loop .k) _ (omega arith) (l .loop .inv .1) (c .vote-sums .ensures))
 
 returns : tie.Need-returns Inv-loop μ-loop
-returns c = stored-all _ _ _ _ _ _ (c .before .loop .k) _ (omega arith) (c .before .loop .inv .1)
+returns c = stored-all _ _ _ _ (c .before .loop .k) _ (omega arith) (c .before .loop .inv .1)
 
 pub low-sums-spec : {M : Type 1} → statement M
 low-sums-spec =
@@ -65,12 +50,11 @@ low-sums-spec =
     Inv-loop
     μ-loop
     loop-holds
+    cast-i
     vote-sums-requires
-    cast-store
-    store-requires
+    mul-all
+    array-set-from-all
     add-k
     loop-less
     loop-again
-    same-length
-    same-length-2
     returns)

@@ -1,34 +1,34 @@
--- `many_sums` meets its contract, by the number of samples.
+-- `many_sums` meets its contract: the sums from coefficient 2 on, and the first two.
+use mathlib.Core.Path.{refl}
 use native.Mathlib.Omega.{arith}
+use Rattle.rows.proofs.RowLaws.{sums-zero, all-both}
 use borrow.Author.Needs.{needs}
 use Rattle.rows.proofs.many_sums.Statement.{statement}
 use Rattle.rows.proofs.many_sums.Tie as tie
 
-returns : tie.Need-returns
-returns c = let s = c .before .before .before .before .before in (s .pre .1 .reals, s .pre .1 .imaginaries, λ l. absurd (omega arith))
-
 slice-aggregate-high-sums : tie.Need-slice-aggregate-high-sums
 slice-aggregate-high-sums c = search needs
 
+no-sums-requires : tie.Need-no-sums-requires
+no-sums-requires c κs = search needs
+
 high-sums-requires : tie.Need-high-sums-requires
-high-sums-requires c κs = search needs
+high-sums-requires c κs =
+    let s = c .before .before .before .before in
+    (s .pre .0, omega (arith, s .pre .1), refl, sums-zero _ _ _ _ (c .no-sums .ensures))
 
-same-length : tie.Need-same-length
-same-length c = search needs
+low-sums-requires : tie.Need-low-sums-requires
+low-sums-requires c κs = search needs
 
-same-length-2 : tie.Need-same-length-2
-same-length-2 c = search needs
-
-returns-2 : tie.Need-returns-2
-returns-2 c = search needs
+returns : tie.Need-returns
+returns c = all-both _ _ _ _ _ (c .before .before .before .before .before .before .before .pre .0) (c .before .before .high-sums .ensures) (c .low-sums .ensures)
 
 pub many-sums-spec : {M : Type 1} → statement M
 many-sums-spec =
     tie.close
     (tie.spec
-    returns
     slice-aggregate-high-sums
+    no-sums-requires
     high-sums-requires
-    same-length
-    same-length-2
-    returns-2)
+    low-sums-requires
+    returns)

@@ -1,5 +1,6 @@
 -- `more` meets its contract: one vote more.
 use native.Mathlib.Omega.{arith}
+use lib.Pow.{pow-mono}
 use Rattle.rows.specs.Work.{votesOf}
 use Rattle.sums.proofs.Steps.{vote-next}
 use borrow.Author.Needs.{needs}
@@ -7,12 +8,14 @@ use Rattle.rows.proofs.more.Statement.{statement}
 use Rattle.rows.proofs.more.Tie as tie
 
 nth-clear-requires : tie.Need-nth-clear-requires
-nth-clear-requires c κs = search needs
+nth-clear-requires c κs =
+    let s = c .before .before in
+    omega (arith, s .pre .1, s .pre .2, s .pre .0 .high, s .pre .0 .reals, pow-mono {i = s .args .m} {j = 8} (s .pre .0 .high))
 
 vote-at-requires : tie.Need-vote-at-requires
 vote-at-requires c κs =
     let s = c .before .before .before in
-    (s .pre .0, s .pre .1, omega (arith, s .pre .0 .reals), c .nth-clear .ensures)
+    (s .pre .0, s .pre .1, s .pre .2, c .nth-clear .ensures)
 
 add-requires : tie.Need-add-requires
 add-requires c κs = search needs
