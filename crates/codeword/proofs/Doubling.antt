@@ -19,10 +19,10 @@ use Rattle.theory.specs.Code.{linear, symbolAt}
 use Rattle.theory.specs.Question.{isAlphabet}
 use Rattle.theory.proofs.QuestionLaws.{alphabet, alphabet-bounds}
 use Rattle.theory.proofs.CodeLaws.{linear-low, linear-high, symbolAt-lt}
-use Rattle.codeword.specs.Coded.{Fits, Coded, Small, Doubled}
+use Rattle.codeword.specs.Coded.{Fits, Coded, Written, Small, Doubled}
 
 pub doubled-none : (q len a : ℕ) (w : List ℕ) → Doubled q len a w w 0
-doubled-none q len a w = record { size = refl; low = λ j l. refl; high = below-none _ }
+doubled-none q len a w = record { size = refl; low = λ j l. refl; high = below-none _; rest = λ j l. refl }
 
 -- one place more
 pub doubled-next : (q len a : ℕ) (w v : List ℕ) (i x : ℕ) → i < len → 2 * len ≤ length w → Doubled q len a w v i → x ≡ (at v i + a) % q
@@ -33,6 +33,7 @@ doubled-next q len a w v i x l room d e = record {
   high = below-more (λ j. at (set v (i + len) x) (j + len) ≡ (at w j + a) % q) i
       (λ j h. getD-set-other v (i + len) (j + len) x 0 (λ z. absurd (omega (arith, z))) ∙ d .high j h)
       (getD-set-same v (i + len) x 0 (omega (arith, d .size)) ∙ e ∙ ap (λ y. (y + a) % q) (d .low i l));
+  rest = λ j h. getD-set-other v (i + len) j x 0 (λ z. absurd (omega (arith, z))) ∙ d .rest j (omega arith);
 }
 
 -- eight places more, in the digits of x
@@ -42,6 +43,7 @@ doubled-eight q len a w v u i n p x room f g d e t = record {
   size = t .size ∙ d .size;
   low = λ j h. t .below j (omega (arith, g)) ∙ d .low j h;
   high = λ j h. place j (omega (arith, f)) (decLt j i);
+  rest = λ j h. t .above j (omega (arith, f, g)) ∙ d .rest j (omega (arith, f));
 }
   where
     place : (j : ℕ) → j < i + 8 → Dec (j < i) → at u (j + len) ≡ (at w j + a) % q
@@ -88,19 +90,25 @@ coded-below q k s w h d i l = rw (d .each i l) (symbolAt-lt q k (at s) i h)
 
 -- what the doubling of len places asks for and gives, where they are the word of k coefficients
 module _ (q k j len : ℕ) (s w : List ℕ) (e : k ≡ j) (f : len ≡ 2 ^ j) (d : Coded q k s w) where
-  pub grow-asks : Fits q (k + 1) s w → (isAlphabet q ≡ true) × (at s (j + 1) < q) × (2 * len ≤ length w) × (len ≤ 128) × ((i : ℕ) → i < len → at w i < q)
-  grow-asks h =
-      let b : (2 ≤ q) × (q ≤ 8) = alphabet-bounds q (alphabet q (h .alphabet)) in
-      let g : 2 ^ (k + 1) ≡ 2 * len = ap (λ x. 2 ^ x) (add-one k) ∙ pow-succ' 2 k ∙ ap (λ x. 2 * 2 ^ x) e ∙ omega (arith, f) in (
+  twice : 2 ^ (k + 1) ≡ 2 * len
+  twice = ap (λ x. 2 ^ x) (add-one k) ∙ pow-succ' 2 k ∙ ap (λ x. 2 * 2 ^ x) e ∙ omega (arith, f)
+
+  pub grow-asks : (a : ℕ) → a < q → Fits q (k + 1) s w → (isAlphabet q ≡ true) × (a < q) × (2 * len ≤ length w) × (len ≤ 128) × ((i : ℕ) → i < len → at w i < q)
+  grow-asks a l h =
+      let b : (2 ≤ q) × (q ≤ 8) = alphabet-bounds q (alphabet q (h .alphabet)) in (
         h .alphabet,
-        h .below (j + 1) (omega arith),
-        omega (arith, h .room),
-        omega (arith, g, pow-mono {i = k + 1} {j = 8} (h .order)),
+        l,
+        omega (arith, twice, h .room),
+        omega (arith, twice, pow-mono {i = k + 1} {j = 8} (h .order)),
         λ i l. coded-below q k s w (omega arith) d i (omega (arith, f, ap (λ x. 2 ^ x) e)),
       )
 
-  pub grow-gives : (v : List ℕ) → Doubled q len (at s (j + 1)) w v len → (length v ≡ length w) × Coded q (k + 1) s v
-  grow-gives v t = (t .size, coded-loop q k len (at s (j + 1)) s w v (f ∙ ap (λ x. 2 ^ x) (sym e)) (ap (λ x. at s (x + 1)) (sym e)) d t)
+  pub grow-gives : (v : List ℕ) → Doubled q len (at s (j + 1)) w v len → Written q (k + 1) s w v
+  grow-gives v t = record {
+    size = t .size;
+    coded = coded-loop q k len (at s (j + 1)) s w v (f ∙ ap (λ x. 2 ^ x) (sym e)) (ap (λ x. at s (x + 1)) (sym e)) d t;
+    rest = λ i h. t .rest i (omega (arith, twice));
+  }
 
 -- the same for n chunks of eight places
 pub chunks-ask : (q a n : ℕ) (w : List ℕ) → (isAlphabet q ≡ true) × (a < q) × (2 * (8 * n) ≤ length w) × (8 * n ≤ 128) × ((i : ℕ) → i < 8 * n → at w i < q)
@@ -122,24 +130,38 @@ pub fits-small : (q m : ℕ) (s w : List ℕ) → Fits q m s w → Small (suc m)
 fits-small q m s w h =
     record { size = h .size; below = λ k l. omega (arith, h .below k l, alphabet-bounds q (alphabet q (h .alphabet))) }
 
-pub coded-all : (q m k : ℕ) (s w : List ℕ) → k ≡ m → Coded q k s w → Coded q m s w
-coded-all q m k s w e d = rw e at d
+-- a word and the next longer one written over it
+pub written-more : (q k : ℕ) (s w v u : List ℕ) → Written q k s w v → Written q (k + 1) s v u → Written q (k + 1) s w u
+written-more q k s w v u a b = record {
+  size = b .size ∙ a .size;
+  coded = b .coded;
+  rest = λ i h. b .rest i h ∙ a .rest i (omega (arith, pow-mono {i = k} {j = k + 1} (omega arith)));
+}
 
--- the places below i hold those of the word of s
+pub written-all : (q m k : ℕ) (s w v : List ℕ) → k ≡ m → Written q k s w v → Written q m s w v
+written-all q m k s w v e d = rw e at d
+
+-- the places below i hold those of the word of s, and those from 2 ^ m on are kept
 pub record Begun (q m : ℕ) (s w v : List ℕ) (i : ℕ) : Type 0 where
   pub size : length v ≡ length w
   pub each : (j : ℕ) → j < i → at v j ≡ symbolAt q m (at s) j
+  pub rest : (j : ℕ) → 2 ^ m ≤ j → at v j ≡ at w j
 
 pub begun-none : (q m : ℕ) (s w : List ℕ) → Begun q m s w w 0
-begun-none q m s w = record { size = refl; each = below-none _ }
+begun-none q m s w = record { size = refl; each = below-none _; rest = λ j l. refl }
 
-pub begun-next : (q m : ℕ) (s w v : List ℕ) (i x : ℕ) → i < length w → Begun q m s w v i → x ≡ symbolAt q m (at s) i → Begun q m s w (set v i x) (i + 1)
-begun-next q m s w v i x h b e = record {
+pub begun-next : (q m : ℕ) (s w v : List ℕ) (i x : ℕ) → i < length w → i < 2 ^ m → Begun q m s w v i → x ≡ symbolAt q m (at s) i → Begun q m s w (set v i x) (i + 1)
+begun-next q m s w v i x h k b e = record {
   size = simp length-set (b .size);
   each = below-more (λ j. at (set v i x) j ≡ symbolAt q m (at s) j) i
       (λ j l. getD-set-other v i j x 0 (λ z. absurd (omega (arith, z))) ∙ b .each j l)
       (getD-set-same v i x 0 (omega (arith, b .size)) ∙ e);
+  rest = λ j l. getD-set-other v i j x 0 (λ z. absurd (omega (arith, z, k))) ∙ b .rest j l;
 }
+
+pub begun-all : (q m : ℕ) (s w v : List ℕ) (i : ℕ) → 2 ^ m ≤ i → Begun q m s w v i → Written q m s w v
+begun-all q m s w v i h b =
+    record { size = b .size; coded = record { each = λ j l. b .each j (omega (arith, h)) }; rest = b .rest }
 
 -- the place at index i of the word of six coefficients, as code works it out
 pub six-symbol : (q i r : ℕ) (s : List ℕ) → r ≡ at s 0 + at s 1 * bit 0 i + at s 2 * bit 1 i + at s 3 * bit 2 i + at s 4 * bit 3 i + at s 5 * bit 4 i + at s 6 * bit 5 i

@@ -17,7 +17,7 @@ use Rattle.digits.specs.Digit.{digit, number}
 use Rattle.digits.proofs.DigitLaws.{digit-and}
 use Rattle.chunk.specs.Chunk.{Holds, Put}
 use Rattle.chunk.proofs.Parts.{hold-number, hold-plus, hold-ext, hold-shifted, same-four}
-use Rattle.codeword.specs.Coded.{Small, Coded, unreduced}
+use Rattle.codeword.specs.Coded.{Small, Written, unreduced}
 
 -- a mask in each digit is the remainder in each digit
 pub reduced-each : (q x y : ℕ) → isAlphabet q ≡ true → Holds 8 y (λ l. q - 1) → (l : ℕ) → l < 8 → digit 8 (bitAnd x y) l ≡ digit 8 x l % q
@@ -69,9 +69,13 @@ pub eight-code : (s : List ℕ) (p x : ℕ) → Small 4 s → Holds 4 p (unreduc
 eight-code s p x h four e = rw e (eight-holds (at s) p (h .below) four)
 
 -- the places of a word, written as digits that are reduced
-pub coded-put : (q m n r x : ℕ) (s w v : List ℕ) → 2 ^ m ≤ n → ((l : ℕ) → l < n → digit 8 r l ≡ digit 8 x l % q) → Holds n x (unreduced m (at s)) → Put n r 0 w v → Coded q m s v
+pub written-put : (q m n r x : ℕ) (s w v : List ℕ) → 2 ^ m ≡ n → ((l : ℕ) → l < n → digit 8 r l ≡ digit 8 x l % q) → Holds n x (unreduced m (at s)) → Put n r 0 w v → Written q m s w v
 unfolding symbolAt unreduced
-coded-put q m n r x s w v h e b p = record { each = λ i l. place i (omega (arith, h)) }
+written-put q m n r x s w v h e b p = record {
+  size = p .size;
+  coded = record { each = λ i l. place i (omega (arith, h)) };
+  rest = λ i l. p .above i (omega (arith, h));
+}
   where
     place : (i : ℕ) → i < n → at v i ≡ unreduced m (at s) i % q
     place i l =

@@ -21,6 +21,12 @@ pub record Fits (q m : ℕ) (s w : List ℕ) : Type 0 where
 pub record Coded (q m : ℕ) (s w : List ℕ) : Type 0 where
   pub each : (i : ℕ) → i < 2 ^ m → at w i ≡ symbolAt q m (at s) i
 
+-- v is w with the word of s in its first 2 ^ m places, and the others kept
+pub record Written (q m : ℕ) (s w v : List ℕ) : Type 0 where
+  pub size : length v ≡ length w
+  pub coded : Coded q m s v
+  pub rest : (i : ℕ) → 2 ^ m ≤ i → at v i ≡ at w i
+
 -- a list that starts with n symbols of some alphabet
 pub record Small (n : ℕ) (s : List ℕ) : Type 0 where
   pub size : n ≤ length s
@@ -30,8 +36,9 @@ pub record Small (n : ℕ) (s : List ℕ) : Type 0 where
 unfoldable pub unreduced : ℕ → (ℕ → ℕ) → ℕ → ℕ
 unreduced m s i = s 0 + linear m (λ k. s (suc k)) i
 
--- the places from len on up to len + i hold those below with a added, and those below len are as in w
+-- v is w with its first i symbols, each plus a modulo q, in the places from len on, and the others kept
 pub record Doubled (q len a : ℕ) (w v : List ℕ) (i : ℕ) : Type 0 where
   pub size : length v ≡ length w
   pub low : (j : ℕ) → j < len → at v j ≡ at w j
   pub high : (j : ℕ) → j < i → at v (j + len) ≡ (at w j + a) % q
+  pub rest : (j : ℕ) → i + len ≤ j → at v j ≡ at w j

@@ -10,7 +10,7 @@ ghost use Rattle.theory.specs.Index.{bit};
 ghost use Rattle.theory.specs.Question.{isAlphabet};
 ghost use Rattle.digits.specs.Digit.{digit};
 ghost use Rattle.chunk.specs.Chunk.{Holds};
-ghost use Rattle.codeword.specs.Coded.{Fits, Coded, Small, Doubled, unreduced};
+ghost use Rattle.codeword.specs.Coded.{Fits, Coded, Written, Small, Doubled, unreduced};
 
 // A symbol as a number of a chunk's width.
 fn wide(x: u8) -> u64
@@ -91,7 +91,7 @@ fn double_each(q: u32, n: usize, a: u8, word: &mut [u8])
 // The coefficient a_k more: the short words eight places at a time, the long ones sixteen, which the compiler makes of single places.
 fn grow(q: u32, k: u32, message: &[u8], word: &mut [u8])
     requires { ⌜ (3 ≤ k) × Fits q (k + 1) (now message) (now word) × Coded q k (now message) (now word) ⌝ }
-    ensures { λ r. ⌜ (length (now (word .exit)) ≡ length (now (word .entry))) × Coded q (k + 1) (now (message .entry)) (now (word .exit)) ⌝ }
+    ensures { λ r. ⌜ Written q (k + 1) (now (message .entry)) (now (word .entry)) (now (word .exit)) ⌝ }
 {
     match k {
         3 => double(q, 1, message[4], word),
@@ -122,7 +122,7 @@ fn place(i: u8, a: u8, a0: u8, a1: u8, a2: u8, a3: u8, a4: u8, a5: u8) -> u8
 // The word of a message of two coefficients.
 fn write_4(q: u32, message: &[u8], word: &mut [u8])
     requires { ⌜ Fits q 2 (now message) (now word) ⌝ }
-    ensures { λ r. ⌜ (length (now (word .exit)) ≡ length (now (word .entry))) × Coded q 2 (now (message .entry)) (now (word .exit)) ⌝ }
+    ensures { λ r. ⌜ Written q 2 (now (message .entry)) (now (word .entry)) (now (word .exit)) ⌝ }
 {
     chunk::put_four(reduced(q, first_four(message)), 0, word);
 }
@@ -130,7 +130,7 @@ fn write_4(q: u32, message: &[u8], word: &mut [u8])
 // Of three.
 fn write_8(q: u32, message: &[u8], word: &mut [u8])
     requires { ⌜ Fits q 3 (now message) (now word) ⌝ }
-    ensures { λ r. ⌜ (length (now (word .exit)) ≡ length (now (word .entry))) × Coded q 3 (now (message .entry)) (now (word .exit)) ⌝ }
+    ensures { λ r. ⌜ Written q 3 (now (message .entry)) (now (word .entry)) (now (word .exit)) ⌝ }
 {
     chunk::put_eight(reduced(q, first_eight(message)), 0, word);
 }
@@ -138,7 +138,7 @@ fn write_8(q: u32, message: &[u8], word: &mut [u8])
 // Of four.
 fn write_16(q: u32, message: &[u8], word: &mut [u8])
     requires { ⌜ Fits q 4 (now message) (now word) ⌝ }
-    ensures { λ r. ⌜ (length (now (word .exit)) ≡ length (now (word .entry))) × Coded q 4 (now (message .entry)) (now (word .exit)) ⌝ }
+    ensures { λ r. ⌜ Written q 4 (now (message .entry)) (now (word .entry)) (now (word .exit)) ⌝ }
 {
     write_8(q, message, word);
     grow(q, 3, message, word);
@@ -147,7 +147,7 @@ fn write_16(q: u32, message: &[u8], word: &mut [u8])
 // Of five.
 fn write_32(q: u32, message: &[u8], word: &mut [u8])
     requires { ⌜ Fits q 5 (now message) (now word) ⌝ }
-    ensures { λ r. ⌜ (length (now (word .exit)) ≡ length (now (word .entry))) × Coded q 5 (now (message .entry)) (now (word .exit)) ⌝ }
+    ensures { λ r. ⌜ Written q 5 (now (message .entry)) (now (word .entry)) (now (word .exit)) ⌝ }
 {
     write_16(q, message, word);
     grow(q, 4, message, word);
@@ -156,7 +156,7 @@ fn write_32(q: u32, message: &[u8], word: &mut [u8])
 // Of six.
 fn write_64(q: u32, message: &[u8], word: &mut [u8])
     requires { ⌜ Fits q 6 (now message) (now word) ⌝ }
-    ensures { λ r. ⌜ (length (now (word .exit)) ≡ length (now (word .entry))) × Coded q 6 (now (message .entry)) (now (word .exit)) ⌝ }
+    ensures { λ r. ⌜ Written q 6 (now (message .entry)) (now (word .entry)) (now (word .exit)) ⌝ }
 {
     write_32(q, message, word);
     grow(q, 5, message, word);
@@ -165,7 +165,7 @@ fn write_64(q: u32, message: &[u8], word: &mut [u8])
 // Of six, each place by itself. The symbols are read before any place is written, so that they can stay in registers.
 fn write_each_of_64(q: u32, s: &[u8], word: &mut [u8])
     requires { ⌜ Fits q 6 (now s) (now word) ⌝ }
-    ensures { λ r. ⌜ (length (now (word .exit)) ≡ length (now (word .entry))) × Coded q 6 (now (s .entry)) (now (word .exit)) ⌝ }
+    ensures { λ r. ⌜ Written q 6 (now (s .entry)) (now (word .entry)) (now (word .exit)) ⌝ }
 {
     let a = s[0];
     let a0 = s[1];
@@ -182,7 +182,7 @@ fn write_each_of_64(q: u32, s: &[u8], word: &mut [u8])
 // Of seven.
 fn write_128(q: u32, message: &[u8], word: &mut [u8])
     requires { ⌜ Fits q 7 (now message) (now word) ⌝ }
-    ensures { λ r. ⌜ (length (now (word .exit)) ≡ length (now (word .entry))) × Coded q 7 (now (message .entry)) (now (word .exit)) ⌝ }
+    ensures { λ r. ⌜ Written q 7 (now (message .entry)) (now (word .entry)) (now (word .exit)) ⌝ }
 {
     write_each_of_64(q, message, word);
     grow(q, 6, message, word);
@@ -191,16 +191,16 @@ fn write_128(q: u32, message: &[u8], word: &mut [u8])
 // Of eight.
 fn write_256(q: u32, message: &[u8], word: &mut [u8])
     requires { ⌜ Fits q 8 (now message) (now word) ⌝ }
-    ensures { λ r. ⌜ (length (now (word .exit)) ≡ length (now (word .entry))) × Coded q 8 (now (message .entry)) (now (word .exit)) ⌝ }
+    ensures { λ r. ⌜ Written q 8 (now (message .entry)) (now (word .entry)) (now (word .exit)) ⌝ }
 {
     write_128(q, message, word);
     grow(q, 7, message, word);
 }
 
-// Writes the word of the message into the first 2^m places.
+// Writes the word of the message into the first 2^m places, and leaves the others as they are.
 pub fn write(q: u32, m: u32, message: &[u8], word: &mut [u8])
     requires { ⌜ Fits q m (now message) (now word) ⌝ }
-    ensures { λ r. ⌜ (length (now (word .exit)) ≡ length (now (word .entry))) × Coded q m (now (message .entry)) (now (word .exit)) ⌝ }
+    ensures { λ r. ⌜ Written q m (now (message .entry)) (now (word .entry)) (now (word .exit)) ⌝ }
 {
     match m {
         2 => write_4(q, message, word),

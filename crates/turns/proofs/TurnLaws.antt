@@ -1,6 +1,7 @@
 -- The quarter turns as a word, and the samples turned back by them. Assumes nothing.
 use Prim.Native.Nat.{ℕ, zero, suc, _+_, _*_, _%_, _^_, _≤_, _<_}
 use mathlib.Core.Path.{_≡_, refl, ap, ap₂, sym, _∙_}
+use mathlib.Core.Bool.{true}
 use mathlib.Core.List.{List, [], _∷_}
 use native.Mathlib.Nat.{mod-lt, zero-add, le-of-suc-le-suc}
 use native.Mathlib.Omega.{arith}
@@ -11,7 +12,7 @@ use lib.Ieee.{Float, binary32, ofBits, neg, nan}
 use Rattle.theory.specs.Sum.{at}
 use Rattle.theory.specs.Code.{linear, symbolAt}
 use Rattle.theory.specs.Question.{isAlphabet}
-use Rattle.codeword.specs.Coded.{Fits, Coded}
+use Rattle.codeword.specs.Coded.{Fits, Written}
 use Rattle.samples.specs.Numbers.{f32}
 use Rattle.samples.specs.Complex.{Complex, sample, turnBack, plus}
 use Rattle.samples.specs.Soft.{constantSums}
@@ -19,13 +20,12 @@ use Rattle.samples.proofs.SumsLaws.{sums-none, sums-next, backTo, back-all}
 use Rattle.sums.proofs.Steps.{zero-bits}
 use Rattle.sums.specs.Pair.{complex}
 use Rattle.sums.specs.Work.{Samples}
-use Rattle.turns.specs.Work.{Coefficients, coefficientsIn, Turns}
+use Rattle.turns.specs.Work.{Coefficients, coefficientsIn, Turns, TurnsWritten}
 
 -- ---- the turns are a word
-pub turns-fit : (m : ℕ) (found t : List ℕ) → 2 ≤ m → m ≤ 8 → Coefficients m found → length t ≡ 256 → Fits 4 m found t
-unfolding isAlphabet
-turns-fit m found t l h c e = record {
-  alphabet = refl;
+pub turns-fit : (q m : ℕ) (found t : List ℕ) → isAlphabet q ≡ true → 4 ≤ q → 2 ≤ m → m ≤ 8 → Coefficients m found → length t ≡ 256 → Fits q m found t
+turns-fit q m found t a b l h c e = record {
+  alphabet = a;
   low = l;
   order = h;
   size = omega (arith, c .size);
@@ -33,15 +33,18 @@ turns-fit m found t l h c e = record {
   room = omega (arith, e, pow-mono {i = m} {j = 8} h);
 }
   where
-    below : (k : ℕ) → k < suc m → at found k < 4
+    below : (k : ℕ) → k < suc m → at found k < q
     below zero i = omega (arith, c .zeroth)
-    below (suc k) i = c .below k (le-of-suc-le-suc i)
+    below (suc k) i = omega (arith, c .below k (le-of-suc-le-suc i))
 
-pub turns-coded : (m : ℕ) (found t u : List ℕ) → Coefficients m found → length t ≡ 256 → length u ≡ length t → Coded 4 m found u → Turns m found u
+pub turns-written : (m : ℕ) (found t u : List ℕ) → Coefficients m found → length t ≡ 256 → Written 4 m found t u → TurnsWritten m found t u
 unfolding symbolAt coefficientsIn
-turns-coded m found t u c e f d = record {
-  size = f ∙ e;
-  each = λ i l. d .each i l ∙ ap (λ x. (x + linear m (λ k. at found (suc k)) i) % 4) (c .zeroth) ∙ ap (λ x. x % 4) (zero-add _);
+turns-written m found t u c e d = record {
+  turns = record {
+    size = d .size ∙ e;
+    each = λ i l. d .coded .each i l ∙ ap (λ x. (x + linear m (λ k. at found (suc k)) i) % 4) (c .zeroth) ∙ ap (λ x. x % 4) (zero-add _);
+  };
+  rest = d .rest;
 }
 
 pub turns-below : (k : ℕ) (found t : List ℕ) → Turns k found t → (i : ℕ) → i < 2 ^ k → at t i < 4

@@ -1,7 +1,7 @@
 -- `write` meets its contract: in each case the order is that of the word that is written.
 use mathlib.Core.Path.{refl}
 use native.Mathlib.Omega.{arith}
-use Rattle.codeword.proofs.Doubling.{fits-less, coded-all}
+use Rattle.codeword.proofs.Doubling.{fits-less, written-all}
 use borrow.Author.Needs.{needs}
 use Rattle.codeword.proofs.write.Statement.{statement}
 use Rattle.codeword.proofs.write.Tie as tie
@@ -47,8 +47,7 @@ same-length c = search needs
 returns : tie.Need-returns
 returns c =
     let s = c .before .before .before .before .before .before .before in
-    let d = c .before .before .write-4 .ensures in
-    (d .0, coded-all _ (s .args .m) 2 _ _ (omega (arith, s .pre .low, s .pre .order)) (d .1))
+    written-all _ (s .args .m) 2 _ _ _ (omega (arith, s .pre .low, s .pre .order)) (c .before .before .write-4 .ensures)
 
 same-length-2 : tie.Need-same-length-2
 same-length-2 c = search needs
@@ -56,8 +55,7 @@ same-length-2 c = search needs
 returns-2 : tie.Need-returns-2
 returns-2 c =
     let s = c .before .before .before .before .before .before .before in
-    let d = c .before .before .write-8 .ensures in
-    (d .0, coded-all _ (s .args .m) 3 _ _ (omega (arith, s .pre .low, s .pre .order)) (d .1))
+    written-all _ (s .args .m) 3 _ _ _ (omega (arith, s .pre .low, s .pre .order)) (c .before .before .write-8 .ensures)
 
 same-length-3 : tie.Need-same-length-3
 same-length-3 c = search needs
@@ -65,8 +63,7 @@ same-length-3 c = search needs
 returns-3 : tie.Need-returns-3
 returns-3 c =
     let s = c .before .before .before .before .before .before .before in
-    let d = c .before .before .write-16 .ensures in
-    (d .0, coded-all _ (s .args .m) 4 _ _ (omega (arith, s .pre .low, s .pre .order)) (d .1))
+    written-all _ (s .args .m) 4 _ _ _ (omega (arith, s .pre .low, s .pre .order)) (c .before .before .write-16 .ensures)
 
 same-length-4 : tie.Need-same-length-4
 same-length-4 c = search needs
@@ -74,8 +71,7 @@ same-length-4 c = search needs
 returns-4 : tie.Need-returns-4
 returns-4 c =
     let s = c .before .before .before .before .before .before .before in
-    let d = c .before .before .write-32 .ensures in
-    (d .0, coded-all _ (s .args .m) 5 _ _ (omega (arith, s .pre .low, s .pre .order)) (d .1))
+    written-all _ (s .args .m) 5 _ _ _ (omega (arith, s .pre .low, s .pre .order)) (c .before .before .write-32 .ensures)
 
 same-length-5 : tie.Need-same-length-5
 same-length-5 c = search needs
@@ -83,8 +79,7 @@ same-length-5 c = search needs
 returns-5 : tie.Need-returns-5
 returns-5 c =
     let s = c .before .before .before .before .before .before .before in
-    let d = c .before .before .write-64 .ensures in
-    (d .0, coded-all _ (s .args .m) 6 _ _ (omega (arith, s .pre .low, s .pre .order)) (d .1))
+    written-all _ (s .args .m) 6 _ _ _ (omega (arith, s .pre .low, s .pre .order)) (c .before .before .write-64 .ensures)
 
 same-length-6 : tie.Need-same-length-6
 same-length-6 c = search needs
@@ -92,8 +87,7 @@ same-length-6 c = search needs
 returns-6 : tie.Need-returns-6
 returns-6 c =
     let s = c .before .before .before .before .before .before .before in
-    let d = c .before .before .write-128 .ensures in
-    (d .0, coded-all _ (s .args .m) 7 _ _ (omega (arith, s .pre .low, s .pre .order)) (d .1))
+    written-all _ (s .args .m) 7 _ _ _ (omega (arith, s .pre .low, s .pre .order)) (c .before .before .write-128 .ensures)
 
 same-length-7 : tie.Need-same-length-7
 same-length-7 c = search needs
@@ -101,8 +95,7 @@ same-length-7 c = search needs
 returns-7 : tie.Need-returns-7
 returns-7 c =
     let s = c .before .before .before .before .before .before .before in
-    let d = c .before .before .write-256 .ensures in
-    (d .0, coded-all _ (s .args .m) 8 _ _ (omega (arith, s .pre .low, s .pre .order)) (d .1))
+    written-all _ (s .args .m) 8 _ _ _ (omega (arith, s .pre .low, s .pre .order)) (c .before .before .write-256 .ensures)
 
 pub write-spec : {M : Type 1} → statement M
 write-spec =

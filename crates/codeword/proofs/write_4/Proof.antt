@@ -1,6 +1,7 @@
 -- `write_4` meets its contract: the digits that are written are the places of the word.
+use mathlib.Core.Path.{refl}
 use native.Mathlib.Omega.{arith}
-use Rattle.codeword.proofs.Lanes.{coded-put}
+use Rattle.codeword.proofs.Lanes.{written-put}
 use Rattle.codeword.proofs.Doubling.{fits-small}
 use borrow.Author.Needs.{needs}
 use Rattle.codeword.proofs.write_4.Statement.{statement}
@@ -23,7 +24,7 @@ returns c =
     let put = c .before .before .put-four .ensures in
     let reduced = c .before .before .before .before .reduced .ensures in
     let first = c .before .before .before .before .before .first-four .ensures in
-    (put .size, coded-put _ 2 4 _ _ _ _ _ (omega arith) (λ l k. reduced l (omega arith)) first put)
+    written-put _ 2 4 _ _ _ _ _ refl (λ l k. reduced l (omega arith)) first put
 
 pub write-4-spec : {M : Type 1} → statement M
 write-4-spec = tie.close (tie.spec first-four-requires reduced-requires put-four-requires same-length returns)

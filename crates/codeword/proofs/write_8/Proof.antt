@@ -1,6 +1,6 @@
 -- `write_8` meets its contract: the digits that are written are the places of the word.
-use native.Mathlib.Omega.{arith}
-use Rattle.codeword.proofs.Lanes.{coded-put}
+use mathlib.Core.Path.{refl}
+use Rattle.codeword.proofs.Lanes.{written-put}
 use Rattle.codeword.proofs.Doubling.{fits-small}
 use borrow.Author.Needs.{needs}
 use Rattle.codeword.proofs.write_8.Statement.{statement}
@@ -23,7 +23,7 @@ returns c =
     let put = c .before .before .put-eight .ensures in
     let reduced = c .before .before .before .before .reduced .ensures in
     let first = c .before .before .before .before .before .first-eight .ensures in
-    (put .size, coded-put _ 3 8 _ _ _ _ _ (omega arith) reduced first put)
+    written-put _ 3 8 _ _ _ _ _ refl reduced first put
 
 pub write-8-spec : {M : Type 1} → statement M
 write-8-spec = tie.close (tie.spec first-eight-requires reduced-requires put-eight-requires same-length returns)

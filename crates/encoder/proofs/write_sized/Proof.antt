@@ -62,7 +62,7 @@ returns-4 : tie.Need-returns-4
 returns-4 c =
     let z = yes (c .before .before .before .before) in
     let w = c .before .before .write .ensures in
-    word-written _ _ _ _ _ z (codeword-is _ _ _ _ (w .0 ∙ all-fits _ _ _ _ z .1) (w .1 .each))
+    word-written _ _ _ _ _ z (codeword-is _ _ _ _ (w .size ∙ all-fits _ _ _ _ z .1) (w .coded .each))
 
 pub write-sized-spec : {M : Type 1} → statement M
 write-sized-spec =

@@ -42,7 +42,7 @@ slice-aggregate-long-constant c = search needs
 long-constant-requires : tie.Need-long-constant-requires
 long-constant-requires c κs =
     let s = c .before .before .before .before .before .before .before .before .before .before .before .before .before .before .before .before .before .before .before in
-    ((long-code (c .before .before .before .before .before .before .before .before .before .before .before .before .before .before .before .before .before .before .before .args .q) (c .before .before .before .before .before .before .before .before .before .before .before .before .before .before .before .before .before .before .before .args .m) (c .before .before .before .before .before .before .before .before .before .before .before .before .before .before .before .before .before .before .before .args .word .now) _ _ (c .before .before .before .before .before .before .before .before .before .before .before .before .before .before .before .before .before .before .before .pre .0) ((c .before .before .before .before .before .before .before .before .before .coefficients .ensures (c .before .before .before .before .before .before .before .before .before .before .before .before .before .before .before .before .before .before .before .args .word .now) (c .before .before .before .before .before .before .before .before .before .before .before .before .long-tallies .ensures .2)) .zeroth) (long-room _ _ (c .before .before .before .before .before .before .before .before .before .before .before .before .before .before .before .before .before .before .before .pre .0 .high) (c .before .before .before .before .before .write .ensures .0)) (c .before .before .before .before .before .write .ensures .1) (s .pre .2) (c .before .before .before .before .before .write .ensures .0)), c .before .before .before .before .before .before .before .before .before .before .before .before .before .before .before .before .pairs .ensures, c .before .before .before .before .before .before .before .before .before .before .before .before .long-tallies .ensures .0, zeros-empty)
+    ((long-code (c .before .before .before .before .before .before .before .before .before .before .before .before .before .before .before .before .before .before .before .args .q) (c .before .before .before .before .before .before .before .before .before .before .before .before .before .before .before .before .before .before .before .args .m) (c .before .before .before .before .before .before .before .before .before .before .before .before .before .before .before .before .before .before .before .args .word .now) _ _ (c .before .before .before .before .before .before .before .before .before .before .before .before .before .before .before .before .before .before .before .pre .0) ((c .before .before .before .before .before .before .before .before .before .coefficients .ensures (c .before .before .before .before .before .before .before .before .before .before .before .before .before .before .before .before .before .before .before .args .word .now) (c .before .before .before .before .before .before .before .before .before .before .before .before .long-tallies .ensures .2)) .zeroth) (long-room _ _ (c .before .before .before .before .before .before .before .before .before .before .before .before .before .before .before .before .before .before .before .pre .0 .high) (c .before .before .before .before .before .write .ensures .size)) (c .before .before .before .before .before .write .ensures .coded) (s .pre .2) (c .before .before .before .before .before .write .ensures .size)), c .before .before .before .before .before .before .before .before .before .before .before .before .before .before .before .before .pairs .ensures, c .before .before .before .before .before .before .before .before .before .before .before .before .long-tallies .ensures .0, zeros-empty)
 
 cast-seat : tie.Need-cast-seat
 cast-seat c = omega (arith, word-length (c .before .before .before .before .before .before .before .before .before .before .before .before .before .before .before .before .before .before .before .before .args .q) (c .before .before .before .before .before .before .before .before .before .before .before .before .before .before .before .before .before .before .before .before .args .m) (c .before .before .before .before .before .before .before .before .before .before .before .before .before .before .before .before .before .before .before .before .args .word .now) (c .before .before .before .before .before .before .before .before .before .before .before .before .before .before .before .before .before .before .before .before .pre .0))
@@ -51,14 +51,14 @@ seat-requires : tie.Need-seat-requires
 seat-requires c κs =
     let s = c .before .before .before .before .before .before .before .before .before .before .before .before .before .before .before .before .before .before .before .before .before in
     let t = (c .before .before .before .before .before .before .before .before .before .before .before .coefficients .ensures (c .before .before .before .before .before .before .before .before .before .before .before .before .before .before .before .before .before .before .before .before .before .args .word .now) (c .before .before .before .before .before .before .before .before .before .before .before .before .before .before .long-tallies .ensures .2)) in
-    let l = (constant-leads (c .before .before .before .before .before .before .before .before .before .before .before .before .before .before .before .before .before .before .before .before .before .args .q) (c .before .before .before .before .before .before .before .before .before .before .before .before .before .before .before .before .before .before .before .before .before .args .m) (c .before .before .before .before .before .before .before .before .before .before .before .before .before .before .before .before .before .before .before .before .before .args .word .now) _ _ (c .before .before .before .before .before .before .before .before .before .before .before .before .before .before .before .before .before .before .before .before .before .pre .0) ((c .before .before .before .before .before .before .before .before .before .before .before .coefficients .ensures (c .before .before .before .before .before .before .before .before .before .before .before .before .before .before .before .before .before .before .before .before .before .args .word .now) (c .before .before .before .before .before .before .before .before .before .before .before .before .before .before .long-tallies .ensures .2)) .zeroth) (long-room _ _ (c .before .before .before .before .before .before .before .before .before .before .before .before .before .before .before .before .before .before .before .before .before .pre .0 .high) (c .before .before .before .before .before .before .before .write .ensures .0)) (c .before .before .before .before .before .before .before .write .ensures .1) _ _ _ (c .before .long-constant .ensures _ (c .before .before .before .before .before .before .before .before .before .before .before .before .before .before .long-tallies .ensures .1))) in
+    let l = (constant-leads (c .before .before .before .before .before .before .before .before .before .before .before .before .before .before .before .before .before .before .before .before .before .args .q) (c .before .before .before .before .before .before .before .before .before .before .before .before .before .before .before .before .before .before .before .before .before .args .m) (c .before .before .before .before .before .before .before .before .before .before .before .before .before .before .before .before .before .before .before .before .before .args .word .now) _ _ (c .before .before .before .before .before .before .before .before .before .before .before .before .before .before .before .before .before .before .before .before .before .pre .0) ((c .before .before .before .before .before .before .before .before .before .before .before .coefficients .ensures (c .before .before .before .before .before .before .before .before .before .before .before .before .before .before .before .before .before .before .before .before .before .args .word .now) (c .before .before .before .before .before .before .before .before .before .before .before .before .before .before .long-tallies .ensures .2)) .zeroth) (long-room _ _ (c .before .before .before .before .before .before .before .before .before .before .before .before .before .before .before .before .before .before .before .before .before .pre .0 .high) (c .before .before .before .before .before .before .before .write .ensures .size)) (c .before .before .before .before .before .before .before .write .ensures .coded) _ _ _ (c .before .long-constant .ensures _ (c .before .before .before .before .before .before .before .before .before .before .before .before .before .before .long-tallies .ensures .1))) in
     (omega (arith, l .inside, bounds (s .args .q) (s .pre .0 .alphabet)), votes-le (s .args .q) (s .args .m) (s .args .word .now) _ (s .pre .0) _ t _ _ _ l, next-le _ _ _ _ _ l, t .size)
 
 returns : tie.Need-returns
 returns c =
     let s = c .before .before .before .before .before .before .before .before .before .before .before .before .before .before .before .before .before .before .before .before .before .before in
     let t = (c .before .before .before .before .before .before .before .before .before .before .before .before .coefficients .ensures (c .before .before .before .before .before .before .before .before .before .before .before .before .before .before .before .before .before .before .before .before .before .before .args .word .now) (c .before .before .before .before .before .before .before .before .before .before .before .before .before .before .before .long-tallies .ensures .2)) in
-    let l = (constant-leads (c .before .before .before .before .before .before .before .before .before .before .before .before .before .before .before .before .before .before .before .before .before .before .args .q) (c .before .before .before .before .before .before .before .before .before .before .before .before .before .before .before .before .before .before .before .before .before .before .args .m) (c .before .before .before .before .before .before .before .before .before .before .before .before .before .before .before .before .before .before .before .before .before .before .args .word .now) _ _ (c .before .before .before .before .before .before .before .before .before .before .before .before .before .before .before .before .before .before .before .before .before .before .pre .0) ((c .before .before .before .before .before .before .before .before .before .before .before .before .coefficients .ensures (c .before .before .before .before .before .before .before .before .before .before .before .before .before .before .before .before .before .before .before .before .before .before .args .word .now) (c .before .before .before .before .before .before .before .before .before .before .before .before .before .before .before .long-tallies .ensures .2)) .zeroth) (long-room _ _ (c .before .before .before .before .before .before .before .before .before .before .before .before .before .before .before .before .before .before .before .before .before .before .pre .0 .high) (c .before .before .before .before .before .before .before .before .write .ensures .0)) (c .before .before .before .before .before .before .before .before .write .ensures .1) _ _ _ (c .before .before .long-constant .ensures _ (c .before .before .before .before .before .before .before .before .before .before .before .before .before .before .before .long-tallies .ensures .1))) in
+    let l = (constant-leads (c .before .before .before .before .before .before .before .before .before .before .before .before .before .before .before .before .before .before .before .before .before .before .args .q) (c .before .before .before .before .before .before .before .before .before .before .before .before .before .before .before .before .before .before .before .before .before .before .args .m) (c .before .before .before .before .before .before .before .before .before .before .before .before .before .before .before .before .before .before .before .before .before .before .args .word .now) _ _ (c .before .before .before .before .before .before .before .before .before .before .before .before .before .before .before .before .before .before .before .before .before .before .pre .0) ((c .before .before .before .before .before .before .before .before .before .before .before .before .coefficients .ensures (c .before .before .before .before .before .before .before .before .before .before .before .before .before .before .before .before .before .before .before .before .before .before .args .word .now) (c .before .before .before .before .before .before .before .before .before .before .before .before .before .before .before .long-tallies .ensures .2)) .zeroth) (long-room _ _ (c .before .before .before .before .before .before .before .before .before .before .before .before .before .before .before .before .before .before .before .before .before .before .pre .0 .high) (c .before .before .before .before .before .before .before .before .write .ensures .size)) (c .before .before .before .before .before .before .before .before .write .ensures .coded) _ _ _ (c .before .before .long-constant .ensures _ (c .before .before .before .before .before .before .before .before .before .before .before .before .before .before .before .long-tallies .ensures .1))) in
     elected (s .args .q) (s .args .m) (s .args .word .now) _ (s .pre .0) _ t _ _ _ l _ _ _ (c .seat .ensures .0) (c .seat .ensures .1) (c .seat .ensures .2)
 
 pub elect-long-spec : {M : Type 1} → statement M

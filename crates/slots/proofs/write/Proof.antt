@@ -1,7 +1,8 @@
 -- `write` meets its contract: the writer of codewords gets the copy.
 use mathlib.Core.Path.{refl}
+use native.Mathlib.Omega.{arith}
 use borrow.Author.Needs.{needs}
-use Rattle.slots.proofs.CopyLaws.{message-fits, copy-fits, copy-coded}
+use Rattle.slots.proofs.CopyLaws.{message-fits, copy-fits, copy-written}
 use Rattle.slots.proofs.write.Statement.{statement}
 use Rattle.slots.proofs.write.Tie as tie
 
@@ -17,7 +18,8 @@ slice-aggregate-write c = search needs
 write-requires : tie.Need-write-requires
 write-requires c κs =
     let p = c .before .before .before in
-    copy-fits _ _ _ _ _ _ _ (p .before .before .before .before .pre) (p .place .ensures) refl
+    let s = p .before .before .before .before .pre in
+    copy-fits _ _ _ _ _ _ _ _ s (p .place .ensures) (omega (arith, s .below)) refl
 
 same-length : tie.Need-same-length
 same-length c = search needs
@@ -26,7 +28,7 @@ returns : tie.Need-returns
 returns c =
     let w = c .before .before in
     let p = w .before .before .before .before in
-    copy-coded _ _ _ _ _ _ _ (p .before .before .before .before .pre) (p .place .ensures) _ (w .write .ensures .0) (w .write .ensures .1)
+    copy-written _ _ _ _ _ _ _ _ (p .before .before .before .before .pre) (p .place .ensures) _ (w .write .ensures)
 
 pub write-spec : {M : Type 1} → statement M
 write-spec =

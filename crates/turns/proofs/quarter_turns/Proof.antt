@@ -1,13 +1,17 @@
 -- `quarter_turns` meets its contract: the word of the coefficients modulo 4 is their turns.
-use Rattle.turns.proofs.TurnLaws.{turns-fit, turns-coded}
+use mathlib.Core.Path.{refl}
+use native.Mathlib.Omega.{arith}
+use Rattle.theory.specs.Question.{isAlphabet}
+use Rattle.turns.proofs.TurnLaws.{turns-fit, turns-written}
 use borrow.Author.Needs.{needs}
 use Rattle.turns.proofs.quarter_turns.Statement.{statement}
 use Rattle.turns.proofs.quarter_turns.Tie as tie
 
 write-requires : tie.Need-write-requires
+unfolding isAlphabet
 write-requires c κs =
     let s = c .before .before .before in
-    turns-fit _ _ _ (s .pre .0) (s .pre .1) (s .pre .2) (s .pre .3)
+    turns-fit _ _ _ _ refl (omega arith) (s .pre .0) (s .pre .1) (s .pre .2) (s .pre .3)
 
 same-length : tie.Need-same-length
 same-length c = search needs
@@ -15,7 +19,7 @@ same-length c = search needs
 returns : tie.Need-returns
 returns c =
     let s = c .before .before .before .before .before .before in
-    turns-coded _ _ (s .args .turns .now) _ (s .pre .2) (s .pre .3) (c .before .before .write .ensures .0) (c .before .before .write .ensures .1)
+    turns-written _ _ (s .args .turns .now) _ (s .pre .2) (s .pre .3) (c .before .before .write .ensures)
 
 pub quarter-turns-spec : {M : Type 1} → statement M
 quarter-turns-spec = tie.close (tie.spec write-requires same-length returns)
