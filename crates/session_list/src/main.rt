@@ -1,121 +1,104 @@
-// The session list: reads the lines of a session from standard input and lists them on standard output.
+// The session list: reads the lines of a session from standard input and lists them on standard output. What a read brings, and what
+// comes next, is decided by stream::turn; here are only the calls of the system. A read or a write that fails ends the list and says so
+// on standard error: a list that is cut short looks like a whole one.
 use libc::STDIN_FILENO;
 use libc::STDOUT_FILENO;
-use stream::Lister;
+use stream::Next;
 ghost use mathlib.Core.Path.{_≡_};
-ghost use mathlib.Core.Bool.{true};
+ghost use mathlib.Core.Bool.{true, false};
 ghost use Prim.Native.Nat.{_≤_};
-ghost use lib.ListN.{length, take};
-ghost use Rattle.stream.specs.Stream.{fed, progress, Fit};
+ghost use lib.ListN.{length};
+ghost use Rattle.stream.specs.Turns.{given, placeOf, goesOn, IfRest};
 
-// What a chunk leaves: the listing, how many of its bytes were read, and whether the reading goes on.
-struct Part {
-    lister: Lister,
-    read: usize,
+// Where the listing stands: what the last read gave, and its error; the place in the chunk up to which it is listed; whether it goes on.
+struct Place {
+    got: isize,
+    error: i32,
+    at: usize,
     more: bool,
 }
 
-// Lists as much of a chunk as the buffer has room for, and writes it in one piece.
-fn list_part(lister: Lister, line: &mut [u8], chunk: &[u8], out: &mut [u8]) -> Part
-    requires { ⌜ Fit lister (now line) ⌝ }
-    ensures state { λ r. ⌜ progress (r .lister) (now (line .exit)) ≡ fed (progress lister (now (line .entry))) (take (r .read) (now (chunk .entry))) ⌝ }
-    ensures fit { λ r. ⌜ Fit (r .lister) (now (line .exit)) ⌝ }
-    ensures bound { λ r. ⌜ r .read ≤ length (now (chunk .entry)) ⌝ }
-{
-    let fed = stream::feed(lister, line, chunk, out);
-    let written = fed.written;
-    let read = fed.read;
-    let next = fed.lister;
-    let over = next.over;
-    let is_written = io::write_all(STDOUT_FILENO, &out[..written]);
-    if !is_written || over {
-        return Part {
-            lister: next,
-            read,
-            more: false,
-        };
-    }
-    Part {
-        lister: next,
-        read,
-        more: true,
-    }
-}
-
-// Lists a chunk, piece by piece: all of it where the reading goes on.
-fn list_chunk(lister: Lister, line: &mut [u8], chunk: &[u8], out: &mut [u8]) -> Part
-    requires { ⌜ Fit lister (now line) ⌝ }
-    ensures state { λ r. ⌜ progress (r .lister) (now (line .exit)) ≡ fed (progress lister (now (line .entry))) (take (r .read) (now (chunk .entry))) ⌝ }
-    ensures all { λ r. ⌜ (r .more ≡ true → r .read ≡ length (now (chunk .entry))) ⌝ }
-    ensures fit { λ r. ⌜ Fit (r .lister) (now (line .exit)) ⌝ }
-{
-    let mut state = lister;
-    let mut from = 0;
-    while from < chunk.len() {
-        let part = list_part(state, line, &chunk[from..], out);
-        state = part.lister;
-        let read = part.read;
-        let more = part.more;
-        from += read;
-        // A part of no bytes would need a buffer that has no room for a line.
-        if !more || read == 0 {
-            return Part {
-                lister: state,
-                read: from,
-                more: false,
-            };
-        }
-    }
-    Part {
-        lister: state,
-        read: from,
-        more: true,
-    }
-}
-
-// Lists the last line, which lacks its newline.
-fn list_end(lister: Lister, line: &[u8], out: &mut [u8])
-    requires { ⌜ Fit lister (now line) × (64 ≤ length (now out)) ⌝ }
-{
-    let written = stream::finish(lister, line, out);
-    io::write_all(STDOUT_FILENO, &out[..written]);
-}
-
-// Reads once and lists what came. A read or a write that fails ends the listing: nothing is added to what was written.
-fn list_turn(lister: Lister, chunk: &mut [u8], line: &mut [u8], out: &mut [u8]) -> Part
-    requires { ⌜ Fit lister (now line) × (64 ≤ length (now out)) ⌝ }
-    ensures { λ r. ⌜ Fit (r .lister) (now (line .exit)) ⌝ }
+// Reads a chunk.
+fn read(chunk: &mut [u8]) -> Place
+    ensures { λ r. ⌜ (given (r .got) ≤ length (now (chunk .exit))) × (r .at ≡ 0) × (r .more ≡ true) ⌝ }
 {
     let got = libc::read(STDIN_FILENO, chunk);
-    if got < 0 {
-        return Part {
-            lister,
-            read: 0,
-            more: false,
-        };
+    let error = os::errno();
+    Place {
+        got,
+        error,
+        at: 0,
+        more: true,
     }
-    if got == 0 {
-        list_end(lister, line, out);
-        return Part {
-            lister,
-            read: 0,
-            more: false,
-        };
-    }
-    let n = io::count(got, chunk);
-    list_chunk(lister, line, &chunk[..n], out)
 }
 
-// Reads to the end of the input. A proved loop has to end, so it counts its turns down from a number that no run uses up.
+// The end of the listing.
+fn end() -> Place
+    ensures { λ r. ⌜ (given (r .got) ≡ 0) × (r .at ≡ 0) × (r .more ≡ false) ⌝ }
+{
+    Place {
+        got: 0,
+        error: 0,
+        at: 0,
+        more: false,
+    }
+}
+
+// The end after a failed read, which is told.
+fn failed() -> Place
+    ensures { λ r. ⌜ (given (r .got) ≡ 0) × (r .at ≡ 0) × (r .more ≡ false) ⌝ }
+{
+    os::fail(b"session_list: reading");
+    end()
+}
+
+// Does what comes next after a turn on a chunk of which a read gave so many bytes.
+fn go_on(next: Next, got: isize, error: i32, chunk: &mut [u8]) -> Place
+    requires { ⌜ (given got ≤ length (now chunk)) × (placeOf next ≤ given got) ⌝ }
+    ensures bounds { λ r. ⌜ (given (r .got) ≤ length (now (chunk .exit))) × (r .at ≤ given (r .got)) ⌝ }
+    ensures place { λ r. ⌜ (r .at ≡ placeOf next) × (r .more ≡ goesOn next) ⌝ }
+    ensures rest { λ r. ⌜ IfRest next ((r .got ≡ got) × (r .error ≡ error) × (now (chunk .exit) ≡ now (chunk .entry))) ⌝ }
+{
+    match next {
+        Next::Read => read(chunk),
+        Next::Rest(at) => Place {
+            got,
+            error,
+            at,
+            more: true,
+        },
+        Next::End => end(),
+        Next::Failed => failed(),
+    }
+}
+
+// Writes the first bytes of the output; a write that fails is told.
+fn write(out: &[u8], n: usize) -> bool
+    requires { ⌜ n ≤ length (now out) ⌝ }
+{
+    let is_written = io::write_all(STDOUT_FILENO, &out[..n]);
+    if !is_written {
+        os::fail(b"session_list: writing");
+    }
+    is_written
+}
+
+// Lists the input. A proved loop has to end, so it counts its turns down from a number that no run uses up.
 fn list_all(chunk: &mut [u8], line: &mut [u8], out: &mut [u8])
     requires { ⌜ (length (now line) ≡ 17) × (64 ≤ length (now out)) ⌝ }
 {
     let mut lister = stream::start();
+    let mut place = read(chunk);
     let mut turns = u64::MAX;
     while turns > 0 {
-        let turn = list_turn(lister, chunk, line, out);
+        let turn = stream::turn(lister, line, place.got, place.error, chunk, place.at, out);
         lister = turn.lister;
-        let more = turn.more;
+        if !write(out, turn.written) {
+            return;
+        }
+        let next = turn.next;
+        place = go_on(next, place.got, place.error, chunk);
+        let more = place.more;
         if !more {
             return;
         }
@@ -128,7 +111,7 @@ fn list_session(chunk: &mut [u8], line: &mut [u8], out: &mut [u8])
     requires { ⌜ (length (now line) ≡ 17) × (64 ≤ length (now out)) ⌝ }
 {
     let written = listing::put_header(out, 0);
-    if !io::write_all(STDOUT_FILENO, &out[..written]) {
+    if !write(out, written) {
         return;
     }
     list_all(chunk, line, out);

@@ -1,3 +1,5 @@
 pub mod StreamLaws
 pub mod ByteLaws
 pub mod PartLaws
+pub mod TurnLaws
+pub mod CountLaws

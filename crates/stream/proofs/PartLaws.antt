@@ -8,7 +8,7 @@ use native.Mathlib.Numerals.{add-one}
 use native.Mathlib.Omega.{arith}
 use borrow.Author.Tests.{eqb-true, eqb-false, ltb-true}
 use lib.Dec.{eqb, ltb}
-use lib.ListN.{length, take, drop, set, length-append, length-drop, drop-of-length-le}
+use lib.ListN.{length, take, drop, set, length-append, length-drop, drop-of-length-le, take-append-drop}
 use lib.Seq.{drop-cons, length-take-le, getD-take, take-suc, take-all, take-add}
 use Rattle.theory.specs.Sum.{at}
 use Rattle.theory.proofs.QuestionLaws.{and-true}
@@ -20,11 +20,12 @@ use Rattle.lines.proofs.LineLaws.{is-slot, reads-slot, reads-miss}
 use Rattle.lines.proofs.EndingLaws.{line-newline, digits-line}
 use Rattle.listing.specs.Listing.{lineText, lineSession, lineEnds}
 use Rattle.listing.specs.declared.Listed.{Listed}
-use Rattle.stream.specs.Stream.{Progress, keep, ended, step, stepText, fed, fedText, progress, Fit}
+use Rattle.stream.specs.Stream.{Progress, keep, ended, step, stepText, fed, fedText, fedCount, progress, Fit}
 use Rattle.stream.specs.Parts.{keepAll, within, hasSlot, hasMiss, Ended, Goes, Took}
 use Rattle.stream.specs.declared.Lister.{Lister}
 use Rattle.stream.specs.declared.Step.{Step}
 use Rattle.stream.proofs.StreamLaws.{fed-append, text-append, fed-next, text-next}
+use Rattle.stream.proofs.CountLaws.{count-next, count-append, count-within}
 use Rattle.stream.proofs.ByteLaws.{line-code, keep-short, keep-full, keep-room, same-progress, step-end, text-end, step-keep, text-keep, put-fits}
 
 -- bytes kept one after the other, from the place i of a part on
@@ -103,6 +104,15 @@ module _ (p : Progress) (bytes : List ℕ) (o : p .over ≡ false) (h : lineLeng
       ∙ ap (λ l. l ++ stepText (fed p (take (lineLength bytes) bytes)) 10) (text-within p bytes o)
       ∙ ap (λ q. stepText q 10) (fed-within p bytes o) ∙ text-end (within p (take (lineLength bytes) bytes)) 10 o refl
 
+  pub count-line : (room : ℕ) → 64 ≤ room → fedCount p room (take (lineLength bytes + 1) bytes) ≡ lineLength bytes + 1
+  unfolding fedCount within
+  count-line room g =
+      let n : length (take (lineLength bytes) bytes) ≡ lineLength bytes = length-take-le (lineLength bytes) bytes (omega (arith, h)) in
+      let here = ap (λ q. q .over) (fed-within p bytes o) ∙ o in
+      let left : 64 ≤ room - length (fedText p (take (lineLength bytes) bytes)) = omega (arith, g, ap length (text-within p bytes o)) in
+      ap (fedCount p room) newline ∙ count-append p room (take (lineLength bytes) bytes) (10 ∷ []) (count-within p room bytes o g ∙ sym n)
+      ∙ ap (λ k. length (take (lineLength bytes) bytes) + k) (count-next (fed p (take (lineLength bytes) bytes)) _ 10 [] here left) ∙ ap (λ k. k + 1) n
+
 -- what a yes to hasSlot and to hasMiss says of the line
 pub slot-ends : (bytes : List ℕ) → hasSlot bytes ≡ true → (16 < length bytes) × (lineLength bytes ≡ 16) × (isSlot (take 16 bytes) ≡ true)
 unfolding hasSlot
@@ -163,6 +173,7 @@ module _ (l : Lister) (start line bytes before : List ℕ) (place : ℕ) (g : Go
             ∙ sym (fed-line p bytes (g .on) h) ∙ ap (λ k. fed p (take k bytes)) (sym count);
         next = d .next ∙ v .place;
         buffer = v .buffer;
+        all = ap (λ k. fedCount p (length before - place) (take k bytes)) count ∙ count-line p bytes (g .on) h (length before - place) (omega (arith, g .room)) ∙ sym count;
         some = omega (arith, count);
         bound = omega (arith, count, h);
         fit = record { alphabet = code .0; order = code .1; kept = omega (arith, d .kept); size = size };
@@ -182,6 +193,7 @@ module _ (l : Lister) (start line bytes before : List ℕ) (place : ℕ) (g : Go
         state = same-progress _ _ _ _ _ _ refl (e ∙ ap (λ k. keepAll (take (l .kept) start) (take k bytes)) a) refl ∙ sym (fed-within p bytes (g .on)) ∙ ap (λ k. fed p (take k bytes)) (sym a);
         next = v .place;
         buffer = v .buffer;
+        all = ap (λ k. fedCount p (length before - place) (take k bytes)) a ∙ count-within p (length before - place) bytes (g .on) (omega (arith, g .room)) ∙ sym a;
         some = omega (arith, b, g .some);
         bound = omega (arith, b);
         fit = record { alphabet = g .fit .alphabet; order = g .fit .order; kept = small; size = size };
@@ -191,12 +203,25 @@ module _ (l : Lister) (start line bytes before : List ℕ) (place : ℕ) (g : Go
 pub record Run (p : Progress) (b bytes : List ℕ) (now : Progress) (place : ℕ) (out : List ℕ) : Type 0 where
   pub state : now ≡ fed p bytes
   pub text : Written b 0 (fedText p bytes) place out
+  pub all : fedCount p (length b) bytes ≡ length bytes
   pub room : place ≤ length b
   pub size : length out ≡ length b
 
 pub run-none : (p : Progress) (b : List ℕ) → Run p b [] p 0 b
-unfolding fed fedText
-run-none p b = record { state = refl; text = record { place = refl; buffer = sym (put-none b 0) }; room = omega arith; size = refl }
+unfolding fed fedText fedCount
+run-none p b = record { state = refl; text = record { place = refl; buffer = sym (put-none b 0) }; all = refl; room = omega arith; size = refl }
+
+-- where no byte more is read, those were all
+pub run-done : (p : Progress) (b chunk : List ℕ) (i : ℕ) (now : Progress) (place : ℕ) (out : List ℕ) → i ≤ length chunk → Run p b (take i chunk) now place out
+    → fedCount now (length b - place) (drop i chunk) ≡ 0 → i ≡ fedCount p (length b) chunk
+run-done p b chunk i now place out h run e =
+    let n : length (take i chunk) ≡ i = length-take-le i chunk h in
+    let left : length b - length (fedText p (take i chunk)) ≡ length b - place = omega (arith, run .text .place) in
+    let none : fedCount (fed p (take i chunk)) (length b - length (fedText p (take i chunk))) (drop i chunk) ≡ 0 =
+    ap (λ q. fedCount q (length b - length (fedText p (take i chunk))) (drop i chunk)) (sym (run .state)) ∙ ap (λ k. fedCount now k (drop i chunk)) left ∙ e
+    in
+    let all = count-append p (length b) (take i chunk) (drop i chunk) (run .all) in
+    sym (ap (fedCount p (length b)) (sym (take-append-drop i chunk)) ∙ all ∙ omega (arith, n, none))
 
 -- what is left of a chunk behind its first i bytes
 unfoldable pub remaining : List ℕ → ℕ → List ℕ
@@ -217,12 +242,20 @@ run-more p b chunk i now place out r line new run w l =
     let part = take (r .read) (remaining chunk i) in
     let more : take i chunk ++ part ≡ take (i + r .read) chunk = ap (λ t. take i chunk ++ take (r .read) t) (remaining-drop chunk i) ∙ sym (take-add i (r .read) chunk) in
     let fits = put-fits out place (fedText now part) (omega (arith, run .room, run .size)) (ap length (sym (w .buffer)) ∙ l) in
+    let n : length part ≡ r .read = length-take-le (r .read) (remaining chunk i) (w .bound) in
+    let left : length b - length (fedText p (take i chunk)) ≡ length out - place = omega (arith, run .text .place, run .size) in
+    let next : fedCount (fed p (take i chunk)) (length b - length (fedText p (take i chunk))) part ≡ length part =
+    ap (λ q. fedCount q (length b - length (fedText p (take i chunk))) part) (sym (run .state)) ∙ ap (λ k. fedCount now k part) left ∙ w .all ∙ sym n
+    in
     record {
       state = w .state ∙ ap (λ q. fed q part) (run .state) ∙ sym (fed-append p (take i chunk) part) ∙ ap (fed p) more;
       text =
           written-as (ap (λ q. fedText p (take i chunk) ++ fedText q part) (run .state) ∙ sym (text-append p (take i chunk) part) ∙ ap (fedText p) more)
           (written-then b 0 (fedText p (take i chunk)) (fedText now part) place (r .next) out new (omega (arith, fits, run .size, run .text .place)) (run .text)
           (record { place = w .next; buffer = w .buffer }));
+      all =
+          ap (fedCount p (length b)) (sym more) ∙ count-append p (length b) (take i chunk) part (run .all) ∙ ap (λ k. length (take i chunk) + k) next
+          ∙ sym (length-append (take i chunk) part) ∙ ap length more;
       room = omega (arith, w .next, fits, run .size);
       size = l ∙ run .size;
     }

@@ -1,5 +1,5 @@
 -- A chunk read line by line: what the code does with the bytes up to the end of a line.
-use Prim.Native.Nat.{ℕ, _+_, _≤_, _<_}
+use Prim.Native.Nat.{ℕ, _+_, _-_, _≤_, _<_}
 use mathlib.Core.Path.{_≡_}
 use mathlib.Core.Bool.{Bool, false, _&&_}
 use mathlib.Core.List.{List, [], _∷_}
@@ -11,7 +11,7 @@ use Rattle.lines.specs.Line.{isDigits}
 use Rattle.listing.specs.declared.Listed.{Listed}
 use Rattle.stream.specs.declared.Lister.{Lister}
 use Rattle.stream.specs.declared.Step.{Step}
-use Rattle.stream.specs.Stream.{Progress, keep, fed, fedText, progress, Fit}
+use Rattle.stream.specs.Stream.{Progress, keep, fed, fedText, fedCount, progress, Fit}
 
 -- some bytes more of a line
 unfoldable pub keepAll : List ℕ → List ℕ → List ℕ
@@ -45,11 +45,12 @@ pub record Goes (l : Lister) (line bytes out : List ℕ) (place : ℕ) : Type 0 
   pub some : 0 < length bytes
   pub room : place + 64 ≤ length out
 
--- what the bytes that are read leave
+-- what the bytes that are read leave; there was room for a line before each of them
 pub record Took (p : Progress) (bytes before : List ℕ) (place : ℕ) (r : Step) (line out : List ℕ) : Type 0 where
   pub state : progress (r .lister) line ≡ fed p (take (r .read) bytes)
   pub next : r .next ≡ place + length (fedText p (take (r .read) bytes))
   pub buffer : out ≡ put before place (fedText p (take (r .read) bytes))
+  pub all : fedCount p (length before - place) (take (r .read) bytes) ≡ r .read
   pub some : 0 < r .read
   pub bound : r .read ≤ length bytes
   pub fit : Fit (r .lister) line

@@ -1,5 +1,5 @@
 -- The listing of an input that comes in chunks, byte by byte.
-use Prim.Native.Nat.{ℕ, _≤_}
+use Prim.Native.Nat.{ℕ, suc, _-_, _≤_}
 use mathlib.Core.Path.{_≡_}
 use mathlib.Core.Bool.{Bool, false, cond}
 use mathlib.Core.List.{List, [], _∷_, _++_}
@@ -44,6 +44,12 @@ fed p (b ∷ bytes) = fed (step p b) bytes
 unfoldable pub fedText : Progress → List ℕ → List ℕ
 fedText p [] = []
 fedText p (b ∷ bytes) = stepText p b ++ fedText (step p b) bytes
+
+-- how many bytes of a chunk are read, where the output has so many places: up to the end of the chunk or of the reading, or to the byte
+-- before which fewer than 64 places are left
+unfoldable pub fedCount : Progress → ℕ → List ℕ → ℕ
+fedCount p room [] = 0
+fedCount p room (b ∷ bytes) = cond (p .over) 0 (cond (ltb room 64) 0 (suc (fedCount (step p b) (room - length (stepText p b)) bytes)))
 
 -- the text of a last line that lacks its newline
 unfoldable pub lastText : Receiver → List ℕ → List ℕ

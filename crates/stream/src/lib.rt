@@ -1,16 +1,17 @@
 // The session list of an input that comes in chunks. What is kept between them does not grow with the input.
+use libc::EINTR;
 use listing::Listed;
 use session::Receiver;
 use session::ReceiverOpened;
 use session::Reference;
 ghost use mathlib.Core.Path.{_≡_};
-ghost use mathlib.Core.Bool.{true, false};
-ghost use mathlib.Core.Logic.{_⊎_};
-ghost use Prim.Native.Nat.{_+_, _≤_, _<_};
+ghost use mathlib.Core.Bool.{false};
+ghost use Prim.Native.Nat.{_≤_};
 ghost use lib.ListN.{length, take};
 ghost use Rattle.text.specs.Text.{put};
 ghost use Rattle.listing.specs.Listing.{opened};
-ghost use Rattle.stream.specs.Stream.{fed, fedText, endText, progress, Fit};
+ghost use Rattle.stream.specs.Stream.{fed, fedText, fedCount, endText, progress, Fit};
+ghost use Rattle.stream.specs.Turns.{given, afterFailure, afterPart, Part, Turned};
 ghost use Rattle.stream.specs.Parts.{keepAll, hasSlot, hasMiss, Ended, Goes, Took};
 
 // A listing on its way: the session, how many bytes of the line that has begun are kept, and whether the reading has ended.
@@ -156,7 +157,7 @@ pub fn feed(lister: Lister, line: &mut [u8], chunk: &[u8], out: &mut [u8]) -> Fe
     ensures state { λ r. ⌜ progress (r .lister) (now (line .exit)) ≡ fed (progress lister (now (line .entry))) (take (r .read) (now (chunk .entry))) ⌝ }
     ensures count { λ r. ⌜ r .written ≡ length (fedText (progress lister (now (line .entry))) (take (r .read) (now (chunk .entry)))) ⌝ }
     ensures buffer { λ r. ⌜ now (out .exit) ≡ put (now (out .entry)) 0 (fedText (progress lister (now (line .entry))) (take (r .read) (now (chunk .entry)))) ⌝ }
-    ensures stops { λ r. ⌜ (r .read ≡ length (now (chunk .entry))) ⊎ ((r .lister .over ≡ true) ⊎ (length (now (out .entry)) < r .written + 64)) ⌝ }
+    ensures read { λ r. ⌜ r .read ≡ fedCount (progress lister (now (line .entry))) (length (now (out .entry))) (now (chunk .entry)) ⌝ }
     ensures bounds { λ r. ⌜ (r .read ≤ length (now (chunk .entry))) × (r .written ≤ length (now (out .exit))) ⌝ }
     ensures fit { λ r. ⌜ Fit (r .lister) (now (line .exit)) ⌝ }
 {
@@ -208,4 +209,90 @@ pub fn finish(lister: Lister, line: &[u8], out: &mut [u8]) -> usize
     }
     let listed = listing::list_line(lister.receiver, &line[..kept], out, 0);
     listed.next
+}
+
+// What comes after a turn: a read, the rest of this chunk from a place on, or nothing more, since the listing has ended or the read failed.
+pub enum Next {
+    Read,
+    Rest(usize),
+    End,
+    Failed,
+}
+
+// What a turn leaves: the lister, how many bytes of the output are to be written, and what comes next.
+pub struct Outcome {
+    pub lister: Lister,
+    pub written: usize,
+    pub next: Next,
+}
+
+// What comes after a failed read: another one where a signal only interrupted it.
+fn after_failure(error: i32) -> Next
+    ensures { λ r. ⌜ r ≡ afterFailure error ⌝ }
+{
+    if error == EINTR {
+        return Next::Read;
+    }
+    Next::Failed
+}
+
+// What comes after the bytes of a chunk up to a place.
+fn after_part(over: bool, at: usize, end: usize) -> Next
+    ensures { λ r. ⌜ r ≡ afterPart over at end ⌝ }
+{
+    if over {
+        return Next::End;
+    }
+    if at == end {
+        return Next::Read;
+    }
+    Next::Rest(at)
+}
+
+// Lists the bytes from a place on, as far as the output has room.
+fn list_part(lister: Lister, line: &mut [u8], bytes: &[u8], at: usize, out: &mut [u8]) -> Outcome
+    requires { ⌜ Fit lister (now line) × (at ≤ length (now bytes)) ⌝ }
+    ensures { λ r. ⌜ Part (progress lister (now (line .entry))) (now (line .exit)) (now (bytes .entry)) at (now (out .entry)) (now (out .exit)) r ⌝ }
+{
+    let fed = feed(lister, line, &bytes[at..], out);
+    let state = fed.lister;
+    let next = after_part(state.over, at + fed.read, bytes.len());
+    Outcome {
+        lister: state,
+        written: fed.written,
+        next,
+    }
+}
+
+// One turn of the program, by what its last read gave: so many bytes of the chunk, of which those before a place are listed; 0 at the end of
+// the input; less where it failed, with this error.
+pub fn turn(
+    lister: Lister,
+    line: &mut [u8],
+    got: isize,
+    error: i32,
+    chunk: &[u8],
+    at: usize,
+    out: &mut [u8],
+) -> Outcome
+    requires { ⌜ Fit lister (now line) × (64 ≤ length (now out)) × (given got ≤ length (now chunk)) × (at ≤ given got) ⌝ }
+    ensures { λ r. ⌜ Turned got error lister (now (line .entry)) (now (line .exit)) (now (chunk .entry)) at (now (out .entry)) (now (out .exit)) r ⌝ }
+{
+    if got < 0 {
+        return Outcome {
+            lister,
+            written: 0,
+            next: after_failure(error),
+        };
+    }
+    let n = got as usize;
+    if n == 0 {
+        let written = finish(lister, line, out);
+        return Outcome {
+            lister,
+            written,
+            next: Next::End,
+        };
+    }
+    list_part(lister, line, &chunk[..n], at, out)
 }

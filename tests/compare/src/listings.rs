@@ -14,12 +14,16 @@ use crate::session_model::SLOTS;
 const PROGRAM: &str = concat!(env!("CARGO_MANIFEST_DIR"), "/../../target/bin/session_list");
 
 /// The document's example: the input, and the output.
-const EXAMPLE: (&str, &str) = (
-    "1201120130233023\n1211120130233021\n-\n3023302312011201\n0001000100010001\n120112013023302\n\
+const EXAMPLE: (&[u8], &str) = (
+    b"1201120130233023\n1211120130233021\n-\n3023302312011201\n0001000100010001\n120112013023302\n\
      2312231201300130\n3023302312011201\n",
     "ms rate zone wrong margin\n0 141 - 0 8\n1024 141 0 2 5\n2048 missed\n3072 141 - 0 8\n4096 doubtful\nbad\n\
      5120 141 - 0 8\n6144 141 1 0 8\n",
 );
+
+/// What the gate runs the program on, and what it must print: more than one chunk of input and of output.
+const STORED: (&[u8], &str) =
+    (include_bytes!("../../../crates/session_list/stdin"), include_str!("../../../crates/session_list/stdout"));
 
 /// Inputs that are easily taken wrongly.
 const INPUTS: [&[u8]; 21] = [
@@ -85,17 +89,17 @@ impl Listings<'_> {
         report.cases += 1;
     }
 
-    /// The document's example, inputs that are easily taken wrongly, and lines around the size of any buffer.
+    /// The document's example and the stored run, which the second lister must list as they stand; inputs that are
+    /// easily taken wrongly; lines around the size of any buffer.
     pub fn edges(&mut self, report: &mut Report) {
-        let (input, output) = EXAMPLE;
-        let listed = lister::list(self.model, input.as_bytes());
-        report.require(listed == output, || {
-            format!(
-                "the document's example is listed as
-{listed}"
-            )
-        });
-        for input in [input.as_bytes()].into_iter().chain(INPUTS) {
+        for (input, output) in [EXAMPLE, STORED] {
+            let listed = lister::list(self.model, input);
+            report.require(listed == output, || {
+                format!("the second lister: {}", difference(output, &Ok(listed.into_bytes())))
+            });
+            self.compare(report, input);
+        }
+        for input in INPUTS {
             self.compare(report, input);
         }
         for (length, byte) in

@@ -1,12 +1,12 @@
 -- `feed` meets its contract. The loop's invariant: the bytes passed are listed.
 use Prim.Native.Nat.{_≤_, _-_}
 use mathlib.Core.Path.{sym, _∙_}
-use mathlib.Core.Logic.{inl, inr}
 use native.Mathlib.Nat.{zero-add}
 use native.Mathlib.Omega.{arith}
 use lib.ListN.{length, take}
 use Rattle.stream.specs.Stream.{progress, Fit}
-use Rattle.stream.proofs.PartLaws.{remaining, remaining-length, Run, run-none, run-more}
+use Rattle.stream.proofs.PartLaws.{remaining, remaining-length, Run, run-none, run-more, run-done}
+use Rattle.stream.proofs.CountLaws.{count-over, count-full, count-end}
 use Rattle.stream.proofs.feed.Statement.{statement}
 use Rattle.stream.proofs.feed.Tie as tie
 
@@ -31,10 +31,12 @@ same-length-2 : tie.Need-same-length-2 Inv-loop μ-loop
 same-length-2 c = let l = c .before .before in l .loop .inv .2 .size
 
 returns : tie.Need-returns Inv-loop μ-loop
+unfolding progress
 returns c =
     let l = c .before .before in
     let r = l .loop .inv .2 in
-    (r .state, (r .text .place ∙ zero-add _, (r .text .buffer, (inr (inl (c .if1 .taken)), ((l .loop .inv .0, omega (arith, r .room, r .size)), l .loop .inv .1)))))
+    let done = run-done _ _ _ (l .loop .read) _ _ _ (l .loop .inv .0) r (count-over (progress (l .loop .state) (l .loop .line)) _ _ (c .if1 .taken)) in
+    (r .state, (r .text .place ∙ zero-add _, (r .text .buffer, (done, ((l .loop .inv .0, omega (arith, r .room, r .size)), l .loop .inv .1)))))
 
 sub-if2 : tie.Need-sub-if2 Inv-loop μ-loop
 sub-if2 c = let r = c .before .before .loop .inv .2 in omega (arith, r .room, r .size)
@@ -51,7 +53,8 @@ returns-2 : tie.Need-returns-2 Inv-loop μ-loop
 returns-2 c =
     let l = c .before .before .before in
     let r = l .loop .inv .2 in
-    (r .state, (r .text .place ∙ zero-add _, (r .text .buffer, (inr (inr (omega (arith, c .if2 .taken, r .size, r .room))), ((l .loop .inv .0, omega (arith, r .room, r .size)), l .loop .inv .1)))))
+    let done = run-done _ _ _ (l .loop .read) _ _ _ (l .loop .inv .0) r (count-full _ _ _ (omega (arith, c .if2 .taken, r .size, r .room))) in
+    (r .state, (r .text .place ∙ zero-add _, (r .text .buffer, (done, ((l .loop .inv .0, omega (arith, r .room, r .size)), l .loop .inv .1)))))
 
 sub-read-line : tie.Need-sub-read-line Inv-loop μ-loop
 sub-read-line c = omega arith
@@ -119,7 +122,8 @@ returns-3 : tie.Need-returns-3 Inv-loop μ-loop
 returns-3 c =
     let l = c .before in
     let r = l .loop .inv .2 in
-    (r .state, (r .text .place ∙ zero-add _, (r .text .buffer, (inl (omega (arith, l .loop .inv .0, c .loop-test .left)), ((l .loop .inv .0, omega (arith, r .room, r .size)), l .loop .inv .1)))))
+    let done = run-done _ _ _ (l .loop .read) _ _ _ (l .loop .inv .0) r (count-end _ _ _ (l .loop .read) (omega (arith, c .loop-test .left))) in
+    (r .state, (r .text .place ∙ zero-add _, (r .text .buffer, (done, ((l .loop .inv .0, omega (arith, r .room, r .size)), l .loop .inv .1)))))
 
 pub feed-spec : {M : Type 1} → statement M
 feed-spec =
