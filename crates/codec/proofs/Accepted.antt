@@ -11,7 +11,8 @@ use Rattle.theory.specs.Nearest.{isReadable}
 use Rattle.theory.specs.Question.{ask, isAlphabet, isOrder, isMessageSize, isWordSize, allBelow, accepted, refused}
 use Rattle.theory.proofs.QuestionLaws.{ask-yes, ask-never, ask-later, alphabet, alphabet-bounds, order-bounds, message-size, word-size, symbols, answer-yes, answer-no}
 use Rattle.tally.specs.Received.{Received}
-use Rattle.codec.specs.Codec.{sizeRefusal, encodeRefusal, encodeAnswer, wordRefusal, decodeRefusal}
+use Rattle.codec.specs.Codec.{encodeRefusal, encodeAnswer, decodeRefusal}
+use Rattle.codec.specs.Asked.{sizeRefusal, wordRefusal}
 
 -- q, m and the message slice pass the questions that Read asks first
 pub record Sized (q m : ℕ) (s : List ℕ) : Type 0 where

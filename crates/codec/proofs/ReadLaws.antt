@@ -8,24 +8,25 @@ use native.Mathlib.Omega.{arith}
 use Rattle.theory.specs.Nearest.{isReadable, nearMessage, nearDistance, nearMargin}
 use Rattle.theory.specs.Question.{accepted, refused}
 use Rattle.theory.proofs.QuestionLaws.{ask-on, ask-no, answer-yes, answer-no, after-yes, after-no}
-use Rattle.codec.specs.Codec.{wordRefusal, decodeRefusal, decodeAnswer, decodeMessage}
+use Rattle.codec.specs.Codec.{decodeRefusal, decodeAnswer, decodeMessage}
+use Rattle.codec.specs.Asked.{wordRefusal}
 use Rattle.codec.proofs.Accepted.{decode-never, decode-later}
 
 -- what decode answers and leaves, by the number that its questions gave and the reading
 module _ (q m : ℕ) (message w : List ℕ) where
-  pub decode-refused : (n : ℕ) → n ≡ wordRefusal q m message w → n ≢ 0 → (refused n ≡ decodeAnswer q m message w) × (message ≡ decodeMessage q m message w)
-  unfolding decodeAnswer decodeMessage
-  decode-refused n e d =
-      let f : n ≡ decodeRefusal q m message w = e ∙ sym (decode-never q m message w (λ z. d (e ∙ z))) in
-      let g : decodeRefusal q m message w ≢ 0 = λ z. d (f ∙ z) in
-      (ap refused f ∙ sym (answer-no _ _ g), sym (after-no _ _ _ g))
-
   pub decode-doubtful : (t : List ℕ) → wordRefusal q m message w ≡ 0 → (isReadable q m w ≡ false) × (t ≡ message) → (refused 9 ≡ decodeAnswer q m message w) × (t ≡ decodeMessage q m message w)
   unfolding decodeAnswer decodeMessage
   decode-doubtful t z (f, x) =
       let e : decodeRefusal q m message w ≡ 9 = decode-later q m message w z ∙ ask-no _ _ _ f in
       let g : decodeRefusal q m message w ≢ 0 = λ y. absurd (omega (arith, e, y)) in
       (sym (ap refused e) ∙ sym (answer-no _ _ g), x ∙ sym (after-no _ _ _ g))
+
+  pub decode-refused : (n : ℕ) → n ≡ wordRefusal q m message w → n ≢ 0 → (refused n ≡ decodeAnswer q m message w) × (message ≡ decodeMessage q m message w)
+  unfolding decodeAnswer decodeMessage
+  decode-refused n e d =
+      let f : n ≡ decodeRefusal q m message w = e ∙ sym (decode-never q m message w (λ z. d (e ∙ z))) in
+      let g : decodeRefusal q m message w ≢ 0 = λ z. d (f ∙ z) in
+      (ap refused f ∙ sym (answer-no _ _ g), sym (after-no _ _ _ g))
 
   pub decode-accepted : (t : List ℕ) (wrong least : ℕ) → wordRefusal q m message w ≡ 0
       → (isReadable q m w ≡ true) × (nearMessage q m w ≡ t) × (nearDistance q m w ≡ wrong) × (nearMargin q m w ≡ least)

@@ -11,23 +11,9 @@ use Rattle.codec.specs.declared.Decoded.the-variants as D
 -- the questions of Write, and the word slice after it
 unfoldable pub use Rattle.encoder.specs.Encoder.{encodeRefusal, encodeWord}
 
--- Read asks 1, 2, 5 first
-unfoldable pub sizeRefusal : ℕ → ℕ → List ℕ → ℕ
-sizeRefusal q m message = ask (isAlphabet q) 1 (ask (isOrder m) 2 (ask (isMessageSize m message) 5 0))
-
 -- Write answers no values
 unfoldable pub encodeAnswer : ℕ → ℕ → List ℕ → List ℕ → Answer
 encodeAnswer q m message word = answer (encodeRefusal q m message word) []
-
--- Read asks 1, 2, 5, 7, 8 before it reads the word
-unfoldable pub wordRefusal : ℕ → ℕ → List ℕ → List ℕ → ℕ
-wordRefusal q m message word =
-    ask (isAlphabet q) 1
-    (ask (isOrder m) 2
-    (ask (isMessageSize m message) 5
-    (ask (isWordSize m word) 7
-    (ask (allBelow q word) 8
-    0))))
 
 -- Read asks 1, 2, 5, 7, 8, 9
 unfoldable pub decodeRefusal : ℕ → ℕ → List ℕ → List ℕ → ℕ

@@ -1,6 +1,7 @@
 // Words of RM_q(1, m): encode (document 01: Write) and decode (Read).
 ghost use mathlib.Core.Path.{_≡_};
-ghost use Rattle.codec.specs.Codec.{sizeRefusal, wordRefusal, encodeAnswer, encodeWord, encoded, decodeAnswer, decodeMessage, decoded};
+ghost use Rattle.codec.specs.Codec.{encodeAnswer, encodeWord, encoded, decodeAnswer, decodeMessage, decoded};
+ghost use Rattle.codec.specs.Asked.{sizeRefusal, wordRefusal};
 
 // What encode answers.
 pub enum Encoded {

@@ -4,15 +4,16 @@ use mathlib.Core.Path.{_≡_, refl, ap, ap₂, sym, _∙_}
 use mathlib.Core.Bool.{true}
 use native.Mathlib.Omega.{arith}
 use native.Mathlib.Nat.{mod-lt, mod-add-mod, mul-le-mul-left, mul-one, zero-add, mod-eq-of-lt}
-use lib.Dec.{eqb}
+use lib.Dec.{eqb, ltb}
 use lib.Bits.{bitAnd}
+use borrow.Author.Tests.{ltb-true}
 use Rattle.theory.specs.Sum.{sum, every}
 use Rattle.theory.specs.Index.{bit}
 use Rattle.theory.specs.Modular.{subMod, same}
 use Rattle.theory.specs.Question.{isAlphabet}
 use Rattle.theory.proofs.QuestionLaws.{alphabet, alphabet-bounds, alphabet-positive, mask-mod}
-use Rattle.theory.proofs.IndexLaws.{bit-lt}
 use Rattle.theory.proofs.SumLaws.{sum-ext, sum-le}
+use Rattle.theory.proofs.EveryLaws.{every-at}
 use Rattle.theory.proofs.ModularLaws.{same-le}
 use Rattle.digits.specs.Digit.{digit}
 use Rattle.digits.proofs.DigitLaws.{digit-lt, digit-and, digit-add, add-lt, digit-times, times-lt}
@@ -56,26 +57,27 @@ module _ (q c a marks : ℕ) (al : isAlphabet q ≡ true) (hc : c < 184467440737
 pub plus-below : (q r : ℕ) (f : ℕ → ℕ) → isAlphabet q ≡ true → Lanes r (λ t. f t % q) → Below q r
 plus-below q r f al e t h = omega (arith, e t h, mod-lt (f t) (alphabet-positive q al))
 
+-- marks that are written out, by one computed test
+pub mask-is : (x : ℕ) → every 16 (λ t. ltb (digit 4 x t) 2) ≡ true → Mask x
+mask-is x e t h = omega (arith, ltb-true (digit 4 x t) 2 (every-at 16 (λ t. ltb (digit 4 x t) 2) e t h))
+
 -- the marks of the places whose bit k is 1
-pub marks-are : (k x : ℕ) → every 16 (λ t. eqb (digit 4 x t) (bit k (offset t))) ≡ true → Lanes x (λ t. bit k (offset t))
+marks-are : (k x : ℕ) → every 16 (λ t. eqb (digit 4 x t) (bit k (offset t))) ≡ true → Lanes x (λ t. bit k (offset t))
 marks-are k x e = lanes-are x (λ t. bit k (offset t)) e
 
-pub marks : (k x : ℕ) → Lanes x (λ t. bit k (offset t)) → Mask x
-marks k x e t h = omega (arith, e t h, bit-lt k (offset t))
-
-pub marks-0 : Lanes 0x1100_1100_1100_1100 (λ t. bit 0 (offset t))
+marks-0 : Lanes 0x1100_1100_1100_1100 (λ t. bit 0 (offset t))
 unfolding every digit bit offset
 marks-0 = marks-are 0 0x1100_1100_1100_1100 refl
 
-pub marks-1 : Lanes 0x1111_0000_1111_0000 (λ t. bit 1 (offset t))
+marks-1 : Lanes 0x1111_0000_1111_0000 (λ t. bit 1 (offset t))
 unfolding every digit bit offset
 marks-1 = marks-are 1 0x1111_0000_1111_0000 refl
 
-pub marks-2 : Lanes 0x1111_1111_0000_0000 (λ t. bit 2 (offset t))
+marks-2 : Lanes 0x1111_1111_0000_0000 (λ t. bit 2 (offset t))
 unfolding every digit bit offset
 marks-2 = marks-are 2 0x1111_1111_0000_0000 refl
 
-pub marks-3 : Lanes 0x1010_1010_1010_1010 (λ t. bit 3 (offset t))
+marks-3 : Lanes 0x1010_1010_1010_1010 (λ t. bit 3 (offset t))
 unfolding every digit bit offset
 marks-3 = marks-are 3 0x1010_1010_1010_1010 refl
 
@@ -131,11 +133,17 @@ pub errors-are : (q x code a y r : ℕ) → isAlphabet q ≡ true → a < q
 errors-are q x code a y r al l e f t h =
     f t h ∙ ap₂ (subMod q) (e t h) (spread-lanes a (omega (arith, alphabet-bounds q (alphabet q al))) t h)
 
--- THE PLACES WITHOUT AN ERROR are no more than the marked ones
-pub zeros-le : (e marks p : ℕ) → Lanes p (λ t. digit 4 marks t * same (digit 4 e t) 0) → sum 16 (digit 4 marks) < 15 → sum 16 (digit 4 p) < 15
-zeros-le e marks p l h =
-    omega (arith, sum-le 16 (digit 4 p) (digit 4 marks) (λ t k. omega (arith, l t k, part-le (digit 4 marks t) (same (digit 4 e t) 0) (same-le (digit 4 e t) 0))))
+-- the places with the error v are no more than the marked ones
+pub equal-le : (e v marks p : ℕ) → Lanes p (λ t. digit 4 marks t * same (digit 4 e t) v) → sum 16 (digit 4 marks) < 15 → sum 16 (digit 4 p) < 15
+equal-le e v marks p l h =
+    omega (arith, sum-le 16 (digit 4 p) (digit 4 marks) (λ t k. omega (arith, l t k, part-le (digit 4 marks t) (same (digit 4 e t) v) (same-le (digit 4 e t) v))))
 
+-- THE PLACES WITHOUT AN ERROR
 pub zeros-are : (e marks p r : ℕ) → Lanes p (λ t. digit 4 marks t * same (digit 4 e t) 0) → r ≡ sum 16 (digit 4 p) → r ≡ zeroPlaces e marks
 unfolding zeroPlaces
 zeros-are e marks p r l f = f ∙ sum-ext 16 _ _ (λ t k. l t k)
+
+-- they are no more than the marked ones
+pub zeros-le : (e marks : ℕ) → zeroPlaces e marks ≤ sum 16 (digit 4 marks)
+unfolding zeroPlaces
+zeros-le e marks = sum-le 16 _ (digit 4 marks) (λ t k. part-le (digit 4 marks t) (same (digit 4 e t) 0) (same-le (digit 4 e t) 0))

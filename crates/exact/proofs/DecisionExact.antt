@@ -59,8 +59,8 @@ module _ (x : Complex Float) (z : Complex ℤ) (w : WholeParts x z) (B : ℕ) (h
       (go (integers .lt (magnitude integers (z .re)) (magnitude integers (z .im))))
     where
       go : (t : Bool) → Same (cond t (decideBy f32 (x .im) (x .re) 1 3 x) (decideBy f32 (x .re) (x .im) 0 2 x)) (cond t (decideBy integers (z .im) (z .re) 1 3 z) (decideBy integers (z .re) (z .im) 0 2 z))
-      go true = by-whole (x .im) (x .re) (z .im) (z .re) 1 3 (w .im) (w .re) (h .im) (h .re)
-      go false = by-whole (x .re) (x .im) (z .re) (z .im) 0 2 (w .re) (w .im) (h .re) (h .im)
+      go true = by-whole (x .im) (x .re) (z .im) (z .re) 1 3 (w .im) (w .re) (h .im) (omega (arith, h .re))
+      go false = by-whole (x .re) (x .im) (z .re) (z .im) 0 2 (w .re) (w .im) (omega (arith, h .re)) (h .im)
 
 pub same-sure : (d : Decision Float) (e : Decision ℤ) → Same d e → isSure d ≡ isSure e
 unfolding Same isSure

@@ -16,6 +16,21 @@ use Rattle.exact.specs.Whole.{Whole, WholeParts, Within}
 use Rattle.exact.proofs.Integers.{abs-add, abs-sub, abs-mul, abs-neg}
 use Rattle.exact.proofs.WholeLaws.{whole-add, whole-sub, whole-mul, whole-neg, whole-number}
 
+-- ---- one sample turned back
+turn-whole : (t : ℕ) (x : Complex Float) (z : Complex ℤ) → WholeParts x z → WholeParts (turnBack f32 t x) (turnBack integers t z)
+unfolding turnBack
+turn-whole zero x z w = w
+turn-whole (suc zero) x z w = record { re = w .im; im = whole-neg _ _ (w .re) }
+turn-whole (suc (suc zero)) x z w = record { re = whole-neg _ _ (w .re); im = whole-neg _ _ (w .im) }
+turn-whole (suc (suc (suc t))) x z w = record { re = whole-neg _ _ (w .im); im = w .re }
+
+turn-within : (t b : ℕ) (z : Complex ℤ) → Within b z → Within b (turnBack integers t z)
+unfolding turnBack
+turn-within zero b z h = h
+turn-within (suc zero) b z h = record { re = h .im; im = omega (arith, h .re, abs-neg (z .re)) }
+turn-within (suc (suc zero)) b z h = record { re = omega (arith, h .re, abs-neg (z .re)); im = omega (arith, h .im, abs-neg (z .im)) }
+turn-within (suc (suc (suc t))) b z h = record { re = omega (arith, h .im, abs-neg (z .im)); im = h .re }
+
 -- ---- one term
 product : (a b : ℤ) → natAbs a ≤ 127 → natAbs b ≤ 127 → natAbs (a *ℤ b) ≤ 16129
 product a b h k = omega (arith, abs-mul a b, mul-le-mul h k)
@@ -37,20 +52,6 @@ module _ (y p : Complex Float) (w z : Complex ℤ) (Y : WholeParts y w) (P : Who
     where
       times : {x v : Float} {a b : ℤ} → Whole x a → Whole v b → natAbs a ≤ 127 → natAbs b ≤ 127 → Whole (f32 .mul x v) (a *ℤ b)
       times {x} {v} {a} {b} f g l m = whole-mul x v a b f g (omega (arith, product a b l m))
-
-turn-whole : (t : ℕ) (x : Complex Float) (z : Complex ℤ) → WholeParts x z → WholeParts (turnBack f32 t x) (turnBack integers t z)
-unfolding turnBack
-turn-whole zero x z w = w
-turn-whole (suc zero) x z w = record { re = w .im; im = whole-neg _ _ (w .re) }
-turn-whole (suc (suc zero)) x z w = record { re = whole-neg _ _ (w .re); im = whole-neg _ _ (w .im) }
-turn-whole (suc (suc (suc t))) x z w = record { re = whole-neg _ _ (w .im); im = w .re }
-
-turn-within : (t b : ℕ) (z : Complex ℤ) → Within b z → Within b (turnBack integers t z)
-unfolding turnBack
-turn-within zero b z h = h
-turn-within (suc zero) b z h = record { re = h .im; im = omega (arith, h .re, abs-neg (z .re)) }
-turn-within (suc (suc zero)) b z h = record { re = omega (arith, h .re, abs-neg (z .re)); im = omega (arith, h .im, abs-neg (z .im)) }
-turn-within (suc (suc (suc t))) b z h = record { re = omega (arith, h .im, abs-neg (z .im)); im = h .re }
 
 -- ---- n terms of at most b each: every running sum is exact
 module _ (x : ℕ → Complex Float) (z : ℕ → Complex ℤ) (b : ℕ) where

@@ -214,12 +214,6 @@ module _ (q m : ℕ) (alphabet : isAlphabet q ≡ true) (order : isOrder m ≡ t
   unfolding referenceAfter zoneFrom
   zone-after i y message delivery e y′ message′ delivery′ e′ = launch-zone (suc i) y′ message′ delivery′ e′ _ (launch-reference i _ e)
 
-  zone-unmeasured : (j : ℕ) (y message : List ℕ) (delivery : Delivery) → Accepted launch j y message delivery → Unmeasured launch j → delivery .zone ≡ Unknown
-  unfolding referenceAfter zoneFrom before
-  zone-unmeasured j y message delivery e first = launch-zone 0 y message delivery e Missing refl
-  zone-unmeasured j y message delivery e (afterMissed i f) = launch-zone (suc i) y message delivery e Missing (launch-reference i _ f)
-  zone-unmeasured j y message delivery e (afterDoubtful i word f) = launch-zone (suc i) y message delivery e Missing (launch-reference i _ f)
-
   unmeasured-zone : (j : ℕ) (y message : List ℕ) (delivery : Delivery) → Accepted launch j y message delivery → delivery .zone ≡ Unknown → Unmeasured launch j
   unmeasured-zone zero y message delivery e u = first
   unmeasured-zone (suc i) y message delivery e u = let (z, f) = earlier launch i _ e in go z f
@@ -230,6 +224,12 @@ module _ (q m : ℕ) (alphabet : isAlphabet q ≡ true) (order : isOrder m ≡ t
           absurd (Known≢Unknown _ (sym (zone-after i y₀ message₀ delivery₀ g y message delivery e) ∙ u))
       go (doubtful word) f = afterDoubtful i word f
       go missed f = afterMissed i f
+
+  zone-unmeasured : (j : ℕ) (y message : List ℕ) (delivery : Delivery) → Accepted launch j y message delivery → Unmeasured launch j → delivery .zone ≡ Unknown
+  unfolding referenceAfter zoneFrom before
+  zone-unmeasured j y message delivery e first = launch-zone 0 y message delivery e Missing refl
+  zone-unmeasured j y message delivery e (afterMissed i f) = launch-zone (suc i) y message delivery e Missing (launch-reference i _ f)
+  zone-unmeasured j y message delivery e (afterDoubtful i word f) = launch-zone (suc i) y message delivery e Missing (launch-reference i _ f)
 
 module _ (q m t : ℕ) (alphabet : isAlphabet q ≡ true) (order : isOrder m ≡ true) (sends : List Send) (calls : List ReceiverCall) where
   abbrev strap′ : List SenderSlot

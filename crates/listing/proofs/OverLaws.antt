@@ -1,6 +1,6 @@
 -- A listing's session is sound, and a line ends the reading exactly after 65,536 slots. Assumes nothing.
 use Prim.Native.Nat.{ℕ, zero, suc, _+_, _-_, _^_, _≤_, _<_}
-use mathlib.Core.Path.{_≡_, refl, ap, sym, _∙_}
+use mathlib.Core.Path.{_≡_, refl, ap, sym, subst, _∙_}
 use mathlib.Core.Bool.{Bool, true, false, not, cond}
 use mathlib.Core.List.{List}
 use native.Mathlib.Omega.{arith}
@@ -19,6 +19,7 @@ use Rattle.session.proofs.SoundLaws.{receive-yes, receive-doubtful, miss-yes, c
 use Rattle.lines.specs.Line.{Line, slot, miss, bad, isSlot, wordOf}
 use Rattle.lines.proofs.LineLaws.{slot-size, slot-digits, digit-at, word-at, word-length}
 use Rattle.listing.specs.Listing.{blank, lineSession, lineEnds, opened}
+use Rattle.listing.proofs.SlotLaws.{told-bad}
 
 -- the session that is opened is sound, and each line leaves a sound one
 pub sound-opened : soundReceiver opened ≡ true
@@ -41,7 +42,7 @@ sound-line s miss e = by (missRefusal s) refl
     by : (n : ℕ) → missRefusal s ≡ n → soundReceiver (after n (nextReceiver s Missing) s) ≡ true
     by zero g = receiver-next s Missing (miss-yes s g) refl
     by (suc n) g = e
-sound-line s bad e = e
+sound-line s bad e = subst (λ r. soundReceiver r ≡ true) (told-bad s .session) e
 
 -- the word of a slot line has 16 symbols below 4
 word-symbols : (line : List ℕ) → isSlot line ≡ true → (length (wordOf line) ≡ 16) × (allBelow 4 (wordOf line) ≡ true)

@@ -181,7 +181,7 @@ module _ (s : Receiver) (x : Missed) (answers : missed x ≡ missAnswer s) (leav
     told-missed =
         record {
           session = ap (missedSession s) (sym c) ∙ leaves;
-          over = sym (after-yes (missRefusal s) false true missed-number);
+          over = sym (after-yes (missRefusal s) _ _ missed-number);
           printed = sym (after-yes (missRefusal s) _ overText missed-number);
         }
 

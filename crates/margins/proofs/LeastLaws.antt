@@ -45,13 +45,13 @@ unfolding least
 least-four g a b c d r1 r2 r3 ea eb e1 ec e2 ed e3 = omega arith
 
 -- 16 PLACES: the second number casts no wrong vote
-pub errors-16 : (q f : ℕ) → isAlphabet q ≡ true → Below q f → ((k : ℕ) → k < 4 → sumFrom1 (q - 1) (votes q 4 k (placeOf f)) < 4) → Errors q 8 f 0
-errors-16 q f a bf l = record {
+pub errors-16 : (q half f : ℕ) → 8 ≤ half → half ≤ 16 → isAlphabet q ≡ true → Below q f → ((k : ℕ) → k < 4 → sumFrom1 (q - 1) (votes q 4 k (placeOf f)) < 4) → Errors q half f 0
+errors-16 q half f h s a bf l = record {
   alphabet = a;
   first = bf;
   second = none-below q a;
-  size = omega arith;
-  few = λ k h. few-same q 8 (bothVotes q k f 0) (votes q 4 k (placeOf f)) (both-none q k f (alphabet-positive q a)) (omega (arith, l k h));
+  size = s;
+  few = λ k i. few-same q half (bothVotes q k f 0) (votes q 4 k (placeOf f)) (both-none q k f (alphabet-positive q a)) (omega (arith, l k i));
 }
 
 pub margin-16-is : (q f r : ℕ) → isAlphabet q ≡ true → r ≡ least 3 (λ k. leadBy q 8 (bothVotes q k f 0)) → r ≡ least 3 (λ k. lead q 0 (votes q 4 k (placeOf f)))

@@ -1,6 +1,6 @@
 -- Laws of steps taken upward, among them that the indices with bit k clear can be enumerated. Assumes nothing.
 use Prim.Native.Nat.{ℕ, zero, suc, _*_, _^_, _≤_, _<_}
-use mathlib.Core.Path.{_≡_, refl, ap, ap₂, sym, _∙_}
+use mathlib.Core.Path.{_≡_, refl, ap, ap₂, sym, _∙_, fun-ext}
 use native.Mathlib.Nat.{pow-succ', not-suc-le-zero}
 use native.Mathlib.Omega.{arith}
 use Rattle.theory.specs.Index.{bit}
@@ -10,15 +10,10 @@ use Rattle.samples.specs.Complex.{stepIfClear, upward}
 module _ {S : Type 0} where
   -- the steps matter only below n
   pub upward-ext : (n : ℕ) (closed : ℕ → ℕ) (f g : ℕ → S → S) (s : S) → ((i : ℕ) → i < n → (x : S) → f i x ≡ g i x) → upward n closed f s ≡ upward n closed g s
-  unfolding upward stepIfClear
+  unfolding upward
   upward-ext zero closed f g s h = refl
   upward-ext (suc n) closed f g s h =
-      ap (stepIfClear (closed n) (f n)) (upward-ext n closed f g s (λ i l. h i (omega arith)))
-      ∙ step (closed n) (h n (omega arith)) (upward n closed g s)
-    where
-      step : (b : ℕ) → ((x : S) → f n x ≡ g n x) → (x : S) → stepIfClear b (f n) x ≡ stepIfClear b (g n) x
-      step zero e x = e x
-      step (suc b) e x = refl
+      ap₂ (stepIfClear (closed n)) (fun-ext (h n (omega arith))) (upward-ext n closed f g s (λ i l. h i (omega arith)))
 
   -- the indices 2 j and 2 j + 1 in one step, where both are left out or none is
   upward-pairs : (n : ℕ) (closed half : ℕ → ℕ) (f : ℕ → S → S) (s : S) → ((j : ℕ) → closed (2 * j) ≡ half j) → ((j : ℕ) → closed (suc (2 * j)) ≡ half j)

@@ -63,6 +63,27 @@ digits-of : (a b c d : ℕ) → a < 4 → b < 4 → c < 4 → d < 4 → Digits a
 unfolding digit
 digits-of a b c d ha hb hc hd = record { first = omega arith; second = omega arith; third = omega arith; fourth = omega arith }
 
+-- the number that the questions of pack and unpack give, test by test
+pub pack-5 : (t : List ℕ) (zone : ℕ) → (length t ≡ 5 → ⊥) → packRefusal t zone ≡ 5
+unfolding packRefusal ask
+pack-5 t zone d = rw (message-no 4 t d)
+
+pub pack-13 : (t : List ℕ) (zone : ℕ) → length t ≡ 5 → 3 < zone → packRefusal t zone ≡ 13
+unfolding packRefusal ask isZone
+pack-13 t zone e h = rw (message-yes 4 t e, lt-leb zone 3 h)
+
+pub pack-0 : (t : List ℕ) (zone : ℕ) → length t ≡ 5 → zone ≤ 3 → packRefusal t zone ≡ 0
+unfolding packRefusal ask isZone
+pack-0 t zone e h = rw (message-yes 4 t e, le-leb zone 3 h)
+
+pub unpack-5 : (t : List ℕ) → (length t ≡ 5 → ⊥) → unpackRefusal t ≡ 5
+unfolding unpackRefusal ask
+unpack-5 t d = rw (message-no 4 t d)
+
+pub unpack-6 : (t : List ℕ) (b : Bool) → length t ≡ 5 → b ≡ allBelow 4 t → unpackRefusal t ≡ ask b 6 0
+unfolding unpackRefusal ask
+unpack-6 t b e h = rw (message-yes 4 t e, h)
+
 -- what a yes to each question says
 pub packable : (t : List ℕ) (zone : ℕ) → packRefusal t zone ≡ 0 → (length t ≡ 5) × (zone ≤ 3)
 unfolding packRefusal isZone
@@ -115,33 +136,12 @@ message-unpacks rate zone h =
       lt-ltb (digit 3 rate) 4 (digit-below 3 rate),
     )
 
--- the number that the questions of pack and unpack give, test by test
-pub pack-5 : (t : List ℕ) (zone : ℕ) → (length t ≡ 5 → ⊥) → packRefusal t zone ≡ 5
-unfolding packRefusal ask
-pack-5 t zone d = rw (message-no 4 t d)
-
-pub pack-13 : (t : List ℕ) (zone : ℕ) → length t ≡ 5 → 3 < zone → packRefusal t zone ≡ 13
-unfolding packRefusal ask isZone
-pack-13 t zone e h = rw (message-yes 4 t e, lt-leb zone 3 h)
-
-pub pack-0 : (t : List ℕ) (zone : ℕ) → length t ≡ 5 → zone ≤ 3 → packRefusal t zone ≡ 0
-unfolding packRefusal ask isZone
-pack-0 t zone e h = rw (message-yes 4 t e, le-leb zone 3 h)
-
-pub unpack-5 : (t : List ℕ) → (length t ≡ 5 → ⊥) → unpackRefusal t ≡ 5
-unfolding unpackRefusal ask
-unpack-5 t d = rw (message-no 4 t d)
-
-pub unpack-6 : (t : List ℕ) (b : Bool) → length t ≡ 5 → b ≡ allBelow 4 t → unpackRefusal t ≡ ask b 6 0
-unfolding unpackRefusal ask
-unpack-6 t b e h = rw (message-yes 4 t e, h)
-
 -- unpacking what was packed gives the rate and the zone back
 pub unpack-packed : (message : List ℕ) (rate zone : ℕ) → rate < 256 → packRefusal message zone ≡ 0
     → unpackAnswer (packMessage message rate zone) ≡ accepted (rate ∷ zone ∷ [])
 unfolding packMessage unpackAnswer rateOf zoneOf strapMessage
 unpack-packed message rate zone h e =
-    ap unpackAnswer (after-yes (packRefusal message zone) (strapMessage rate zone) message e)
+    ap unpackAnswer (after-yes _ _ _ e)
     ∙ answer-yes (unpackRefusal (strapMessage rate zone)) _ (message-unpacks rate zone (packable message zone e .1))
     ∙ ap (λ r. accepted (r ∷ zone ∷ [])) (digits rate h)
 
@@ -163,4 +163,4 @@ unfolding packAnswer packMessage
 pack-unpacked message target e size =
     let u = unpackable message e in
     let n = pack-0 target (zoneOf message) size (zone-below message u) in
-    (answer-yes (packRefusal target (zoneOf message)) [] n, after-yes (packRefusal target (zoneOf message)) _ target n ∙ message-of message u)
+    (answer-yes (packRefusal target (zoneOf message)) [] n, after-yes _ _ _ n ∙ message-of message u)

@@ -50,7 +50,7 @@ linear-ext m c d h i = sum-ext m _ _ (λ k l. ap (λ x. x * bit k i) (h k l))
 -- a symbol hangs on the m + 1 symbols of the message alone
 pub symbolAt-ext : (q m : ℕ) (s t : ℕ → ℕ) → ((k : ℕ) → k < suc m → s k ≡ t k) → (i : ℕ) → symbolAt q m s i ≡ symbolAt q m t i
 unfolding symbolAt
-symbolAt-ext q m s t h i = ap₂ (λ x y. (x + y) % q) (h 0 (omega arith)) (linear-ext m _ _ (λ k l. h (suc k) (omega arith)) i)
+symbolAt-ext q m s t h i = cc (h 0 (omega arith), linear-ext m _ _ (λ k l. h (suc k) (omega arith)) i)
 
 pub symbolAt-lt : (q m : ℕ) (s : ℕ → ℕ) (i : ℕ) → 0 < q → symbolAt q m s i < q
 unfolding symbolAt

@@ -44,13 +44,6 @@ module _ (n : ℕ) (closed cast bad : ℕ → ℕ) (right : ℕ) (cases : (i : �
   unfolding count
   count-other v d = sum-le n _ _ (λ i l. other-place v d i)
 
--- an undamaged pair casts the coefficient
-vote-right : (q m k : ℕ) (s : ℕ → ℕ) (i : ℕ) → 0 < q → k < m → s (suc k) < q → bit k i ≡ 0 → vote q k (symbolAt q m s) i ≡ s (suc k)
-unfolding vote symbolAt
-vote-right q m k s i hq hk hs z =
-    let e : s 0 + (linear m (λ j. s (suc j)) i + s (suc k)) ≡ s (suc k) + (s 0 + linear m (λ j. s (suc j)) i) = omega arith in
-    rw (linear-partner k m hk (λ j. s (suc j)) i z, e, subMod-mod, subMod-add, mod-eq-of-lt hs) refl
-
 -- what is left of an undamaged place is the constant, and only of such a place
 pub residue-right : (q m : ℕ) (s y : ℕ → ℕ) (i : ℕ) → 0 < q → s 0 < q → symbolAt q m s i ≡ y i → residue q m s y i ≡ s 0
 unfolding residue symbolAt
@@ -59,6 +52,13 @@ residue-right q m s y i hq hs e = rw (← e, subMod-add, mod-eq-of-lt hs)
 pub right-residue : (q m : ℕ) (s y : ℕ → ℕ) (i : ℕ) → 0 < q → y i < q → residue q m s y i ≡ s 0 → symbolAt q m s i ≡ y i
 unfolding residue symbolAt
 right-residue q m s y i hq hy e = rw (← e, add-subMod, mod-eq-of-lt hy)
+
+-- an undamaged pair casts the coefficient
+vote-right : (q m k : ℕ) (s : ℕ → ℕ) (i : ℕ) → 0 < q → k < m → s (suc k) < q → bit k i ≡ 0 → vote q k (symbolAt q m s) i ≡ s (suc k)
+unfolding vote symbolAt
+vote-right q m k s i hq hk hs z =
+    let e : s 0 + (linear m (λ j. s (suc j)) i + s (suc k)) ≡ s (suc k) + (s 0 + linear m (λ j. s (suc j)) i) = omega arith in
+    rw (linear-partner k m hk (λ j. s (suc j)) i z, e, subMod-mod, subMod-add, mod-eq-of-lt hs) refl
 
 module _ (q m : ℕ) (s y : ℕ → ℕ) (hq : 0 < q) where
   -- 1 where the place is damaged

@@ -7,7 +7,7 @@ use mathlib.Core.List.{List, [], _∷_}
 use native.Mathlib.Decide.{decLt}
 use native.Mathlib.Omega.{arith}
 use native.Mathlib.Nat.{zero-add, mul-zero, mul-one, add-zero, mod-lt, mod-add-mod, eq-or-lt-of-le, le-of-suc-le-suc, not-suc-le-zero}
-use borrow.Author.Tests.{lt-ltb, le-ltb, leb-true}
+use borrow.Author.Tests.{lt-ltb, le-ltb, ltb-true, leb-true}
 use lib.Dec.{leb, ltb}
 use lib.ListN.{length}
 use lib.Pow.{pow-mono}
@@ -18,7 +18,6 @@ use Rattle.theory.specs.Code.{linear, symbolAt}
 use Rattle.theory.specs.Near.{distance}
 use Rattle.theory.specs.Question.{isAlphabet}
 use Rattle.theory.proofs.SumLaws.{sum-ext, sum-split}
-use Rattle.theory.proofs.EveryLaws.{every-at}
 use Rattle.theory.proofs.IndexLaws.{bit-low, second-low, second-set}
 use Rattle.theory.proofs.CodeLaws.{linear-ext}
 use Rattle.theory.proofs.ModularLaws.{subMod-lt}
@@ -29,6 +28,7 @@ use Rattle.tally.specs.Received.{Received}
 use Rattle.tally.proofs.CountLaws.{bounds}
 use Rattle.leads.specs.Lead.{Mask}
 use Rattle.errors.specs.Places.{plain, zeroPlaces}
+use Rattle.errors.proofs.PlaceLaws.{mask-is, zeros-le}
 use Rattle.guess.specs.Guess.{message, Guessed, GuessOf, GuessOfBoth}
 use Rattle.margins.specs.Margins.{placeOf, placesOf}
 use Rattle.margins.proofs.CastLaws.{at-lane, first-places, second-places}
@@ -99,28 +99,20 @@ place-left q x a c0 c1 c2 c3 e b w h l i k =
     l (laneOf i) (lane-lt i k)
     ∙ ap₂ (subMod q) (h (laneOf i) (lane-lt i k) ∙ ap (λ z. at w (b + z)) (lane-place i k)) (ap (symbolAt q 4 (at (message a c0 c1 c2 c3 0))) (lane-place i k))
 
--- THE MARKS of the first four, of the first eight and of the second eight places
-marks-by : (c : ℕ) → every 16 (λ t. leb (digit 4 c t) 1) ≡ true → Mask c
-marks-by c e t h = leb-true _ _ (every-at 16 (λ t. leb (digit 4 c t) 1) e t h)
+-- THE MARKS of some places, by two computed tests
+pub marked : (c : ℕ) → every 16 (λ t. ltb (digit 4 c t) 2) ≡ true → ltb (sum 16 (digit 4 c)) 15 ≡ true → Mask c × (sum 16 (digit 4 c) < 15)
+marked c e f = (mask-is c e, ltb-true (sum 16 (digit 4 c)) 15 f)
 
-pub marks-four : Mask 0x0101_0101 × (sum 16 (digit 4 0x0101_0101) < 15)
-unfolding every sum digit
-marks-four = (marks-by 0x0101_0101 refl, omega arith)
-
-pub marks-first : Mask 0x0101_0101_0101_0101 × (sum 16 (digit 4 0x0101_0101_0101_0101) < 15)
-unfolding every sum digit
-marks-first = (marks-by 0x0101_0101_0101_0101 refl, omega arith)
-
-pub marks-second : Mask 0x1010_1010_1010_1010 × (sum 16 (digit 4 0x1010_1010_1010_1010) < 15)
-unfolding every sum digit
-marks-second = (marks-by 0x1010_1010_1010_1010 refl, omega arith)
+-- no more than the marked places have no error
+pub right-le : (e c n y : ℕ) → leb (sum 16 (digit 4 c)) n ≡ true → y ≡ zeroPlaces e c → y ≤ n
+right-le e c n y l f = omega (arith, f, leb-true (sum 16 (digit 4 c)) n l, zeros-le e c)
 
 -- HOW MANY PLACES have an error
-pub wrong-4 : (e y : ℕ) → y ≡ zeroPlaces e 0x0101_0101 → (y ≤ 4) × (4 - y ≡ sum (2 ^ 2) (λ i. differ 0 (placeOf e i)))
-wrong-4 e y f = let a = first-four e (placeOf e) (place-lanes e) in (omega (arith, a, f), omega (arith, a, f))
+pub wrong-4 : (e y : ℕ) → y ≡ zeroPlaces e 0x0101_0101 → 4 - y ≡ sum (2 ^ 2) (λ i. differ 0 (placeOf e i))
+wrong-4 e y f = omega (arith, first-four e (placeOf e) (place-lanes e), f)
 
-pub wrong-8 : (e y : ℕ) → y ≡ zeroPlaces e 0x0101_0101_0101_0101 → (y ≤ 8) × (8 - y ≡ sum (2 ^ 3) (λ i. differ 0 (placeOf e i)))
-wrong-8 e y f = let a = first-eight e (placeOf e) (place-lanes e) in (omega (arith, a, f), omega (arith, a, f))
+pub wrong-8 : (e y : ℕ) → y ≡ zeroPlaces e 0x0101_0101_0101_0101 → 8 - y ≡ sum (2 ^ 3) (λ i. differ 0 (placeOf e i))
+wrong-8 e y f = omega (arith, first-eight e (placeOf e) (place-lanes e), f)
 
 pub wrong-16 : (e r y z : ℕ) → y ≡ zeroPlaces e 0x0101_0101_0101_0101 → z ≡ zeroPlaces e 0x1010_1010_1010_1010 → r ≡ 16 - y - z → (r ≡ sum 16 (λ i. differ 0 (placeOf e i))) × (r ≤ 16)
 wrong-16 e r y z f g h =
@@ -128,12 +120,6 @@ wrong-16 e r y z f g h =
     let b = second-eight e (placeOf e) (place-lanes e) in
     let c = sum-split 8 8 (λ i. differ 0 (placeOf e i)) in
     (omega (arith, a, b, c, f, g, h), omega (arith, h))
-
-pub right-first : (e y : ℕ) → y ≡ zeroPlaces e 0x0101_0101_0101_0101 → y ≤ 16
-right-first e y f = omega (arith, first-eight e (placeOf e) (place-lanes e), f)
-
-pub right-both : (e y z : ℕ) → y ≡ zeroPlaces e 0x0101_0101_0101_0101 → z ≡ zeroPlaces e 0x1010_1010_1010_1010 → z ≤ 16 - y
-right-both e y z f g = omega (arith, first-eight e (placeOf e) (place-lanes e), second-eight e (placeOf e) (place-lanes e), f, g)
 
 -- EVERY SYMBOL of a received word is below q, and there is nothing past its end
 pub word-below : (q m : ℕ) (w : List ℕ) → Received q m w → (i : ℕ) → at w i < q

@@ -3,7 +3,8 @@ use Prim.Native.Nat.{_≤_, _<_, _*_, _^_}
 use mathlib.Core.Path.{_≡_, refl, sym, _∙_}
 use native.Mathlib.Omega.{arith}
 use borrow.Author.Needs.{needs}
-use Rattle.codec.specs.Codec.{wordRefusal, decoded}
+use Rattle.codec.specs.Codec.{decoded}
+use Rattle.codec.specs.Asked.{wordRefusal}
 use Rattle.tally.proofs.CountLaws.{word-length}
 use Rattle.codec.proofs.Accepted.{Readable, readable}
 use Rattle.codec.proofs.ReadLaws.{decode-refused, decode-doubtful, decode-accepted}

@@ -1,27 +1,34 @@
 -- `code` meets its contract: one coefficient after the other, each where its bit of the place is 1.
+use mathlib.Core.Path.{refl}
 use borrow.Author.Needs.{needs}
+use Rattle.theory.specs.Sum.{every}
+use Rattle.digits.specs.Digit.{digit}
 use Rattle.lanes.proofs.LaneLaws.{none-below}
-use Rattle.errors.proofs.PlaceLaws.{plus-below, marks, marks-0, marks-1, marks-2, marks-3, code-is}
+use Rattle.errors.proofs.PlaceLaws.{plus-below, mask-is, code-is}
 use Rattle.errors.proofs.code.Statement.{statement}
 use Rattle.errors.proofs.code.Tie as tie
 
 plus-requires : tie.Need-plus-requires
-plus-requires c κs = (c .pre .0, none-below (c .args .q) (c .pre .0), c .pre .1, marks 0 0x1100_1100_1100_1100 marks-0)
+unfolding every digit
+plus-requires c κs = (c .pre .0, none-below (c .args .q) (c .pre .0), c .pre .1, mask-is _ refl)
 
 plus-requires-2 : tie.Need-plus-requires-2
+unfolding every digit
 plus-requires-2 c κs =
     let s = c .before in
-    (s .pre .0, plus-below (s .args .q) (c .plus .result) _ (s .pre .0) (c .plus .ensures), s .pre .2, marks 1 0x1111_0000_1111_0000 marks-1)
+    (s .pre .0, plus-below (s .args .q) (c .plus .result) _ (s .pre .0) (c .plus .ensures), s .pre .2, mask-is _ refl)
 
 plus-requires-3 : tie.Need-plus-requires-3
+unfolding every digit
 plus-requires-3 c κs =
     let s = c .before .before in
-    (s .pre .0, plus-below (s .args .q) (c .plus2 .result) _ (s .pre .0) (c .plus2 .ensures), s .pre .3, marks 2 0x1111_1111_0000_0000 marks-2)
+    (s .pre .0, plus-below (s .args .q) (c .plus2 .result) _ (s .pre .0) (c .plus2 .ensures), s .pre .3, mask-is _ refl)
 
 plus-requires-4 : tie.Need-plus-requires-4
+unfolding every digit
 plus-requires-4 c κs =
     let s = c .before .before .before in
-    (s .pre .0, plus-below (s .args .q) (c .plus3 .result) _ (s .pre .0) (c .plus3 .ensures), s .pre .4, marks 3 0x1010_1010_1010_1010 marks-3)
+    (s .pre .0, plus-below (s .args .q) (c .plus3 .result) _ (s .pre .0) (c .plus3 .ensures), s .pre .4, mask-is _ refl)
 
 returns : tie.Need-returns
 returns c =

@@ -1,7 +1,7 @@
 -- `right` meets its contract: the lanes without an error are marked, and added.
 use native.Mathlib.Omega.{arith}
 use borrow.Author.Needs.{needs}
-use Rattle.errors.proofs.PlaceLaws.{zeros-le, zeros-are}
+use Rattle.errors.proofs.PlaceLaws.{equal-le, zeros-are}
 use Rattle.errors.proofs.right.Statement.{statement}
 use Rattle.errors.proofs.right.Tie as tie
 
@@ -9,7 +9,7 @@ equal-requires : tie.Need-equal-requires
 equal-requires c κs = (c .pre .0, omega arith, c .pre .1)
 
 total-requires : tie.Need-total-requires
-total-requires c κs = zeros-le (c .before .args .e) (c .before .args .marks) (c .equal .result) (c .equal .ensures) (c .before .pre .2)
+total-requires c κs = equal-le (c .before .args .e) _ (c .before .args .marks) (c .equal .result) (c .equal .ensures) (c .before .pre .2)
 
 returns : tie.Need-returns
 returns c = zeros-are (c .before .before .args .e) (c .before .before .args .marks) (c .before .equal .result) _ (c .before .equal .ensures) (c .total .ensures)

@@ -1,10 +1,11 @@
 -- `margin_16` meets its contract: a number without errors casts no wrong vote.
+use native.Mathlib.Omega.{arith}
 use Rattle.margins.proofs.LeastLaws.{errors-16, margin-16-is}
 use Rattle.margins.proofs.margin_16.Statement.{statement}
 use Rattle.margins.proofs.margin_16.Tie as tie
 
 four-leads-requires : tie.Need-four-leads-requires
-four-leads-requires c κs = errors-16 (c .args .q) (c .args .f) (c .pre .0) (c .pre .1) (c .pre .2)
+four-leads-requires c κs = errors-16 (c .args .q) _ (c .args .f) (omega arith) (omega arith) (c .pre .0) (c .pre .1) (c .pre .2)
 
 returns : tie.Need-returns
 returns c =

@@ -2,7 +2,9 @@
 use native.Mathlib.Omega.{arith}
 use mathlib.Core.Path.{refl}
 use borrow.Author.Needs.{needs}
-use Rattle.trial.proofs.TrialLaws.{marks-four, word-low, held-below, below-eight, symbols-below, tries-one, wrong-4}
+use Rattle.theory.specs.Sum.{sum, every}
+use Rattle.digits.specs.Digit.{digit}
+use Rattle.trial.proofs.TrialLaws.{marked, right-le, word-low, held-below, below-eight, symbols-below, tries-one, wrong-4}
 use Rattle.trial.proofs.try_4.Statement.{statement}
 use Rattle.trial.proofs.try_4.Tie as tie
 
@@ -22,18 +24,21 @@ left-requires c κs =
     (s .pre .alphabet, held-below (s .args .q) 2 (s .args .word .now) 0 (c .before .load-4 .result) (s .pre) h, a, c0, c1, c2, c3)
 
 right-requires : tie.Need-right-requires
+unfolding every sum digit
 right-requires c κs =
     let s = c .before .before .before .before in
-    (below-eight (s .args .q) (c .left .result) (s .pre .alphabet) (c .left .ensures .1), marks-four .0, marks-four .1)
+    let m = marked _ refl refl in
+    (below-eight (s .args .q) (c .left .result) (s .pre .alphabet) (c .left .ensures .1), m .0, m .1)
 
 sub-t7 : tie.Need-sub-t7
-sub-t7 c = wrong-4 (c .before .left .result) (c .right .result) (c .right .ensures) .0
+unfolding sum digit
+sub-t7 c = right-le (c .before .left .result) _ 4 (c .right .result) refl (c .right .ensures)
 
 returns : tie.Need-returns
 returns c =
     let s = c .before .before .before .before .before in
     let g = c .before .before .guess-4 .result in
-    tries-one (s .args .q) 2 (s .args .word .now) (s .pre) (omega arith) (c .before .before .before .load-4 .result) (g .constant) (g .c0) (g .c1) (g .c2) (g .c3) (g .c4) (c .before .left .result) (c .before .before .before .load-4 .ensures) (c .before .left .ensures .0) (c .before .before .guess-4 .ensures .3) _ (wrong-4 (c .before .left .result) (c .right .result) (c .right .ensures) .1)
+    tries-one (s .args .q) 2 (s .args .word .now) (s .pre) (omega arith) (c .before .before .before .load-4 .result) (g .constant) (g .c0) (g .c1) (g .c2) (g .c3) (g .c4) (c .before .left .result) (c .before .before .before .load-4 .ensures) (c .before .left .ensures .0) (c .before .before .guess-4 .ensures .3) _ (wrong-4 (c .before .left .result) (c .right .result) (c .right .ensures))
 
 pub try-4-spec : {M : Type 1} → statement M
 try-4-spec = tie.close (tie.spec load-4-requires guess-4-requires left-requires right-requires sub-t7 returns)

@@ -2,21 +2,29 @@
 use native.Mathlib.Omega.{arith}
 use mathlib.Core.Path.{refl}
 use borrow.Author.Needs.{needs}
-use Rattle.trial.proofs.TrialLaws.{marks-first, marks-second, wrong-16, right-first, right-both}
+use Rattle.theory.specs.Sum.{sum, every}
+use Rattle.digits.specs.Digit.{digit}
+use Rattle.trial.proofs.TrialLaws.{marked, right-le, wrong-16}
 use Rattle.trial.proofs.wrong_16.Statement.{statement}
 use Rattle.trial.proofs.wrong_16.Tie as tie
 
 right-requires : tie.Need-right-requires
-right-requires c κs = (c .pre, marks-first .0, marks-first .1)
+unfolding every sum digit
+right-requires c κs = let m = marked _ refl refl in (c .pre, m .0, m .1)
 
 sub-result : tie.Need-sub-result
-sub-result c = right-first (c .before .args .e) (c .right .result) (c .right .ensures)
+unfolding sum digit
+sub-result c = right-le (c .before .args .e) _ 16 (c .right .result) refl (c .right .ensures)
 
 right-requires-2 : tie.Need-right-requires-2
-right-requires-2 c κs = (c .before .pre, marks-second .0, marks-second .1)
+unfolding every sum digit
+right-requires-2 c κs = let m = marked _ refl refl in (c .before .pre, m .0, m .1)
 
 sub-result-2 : tie.Need-sub-result-2
-sub-result-2 c = right-both (c .before .before .args .e) (c .before .right .result) (c .right2 .result) (c .before .right .ensures) (c .right2 .ensures)
+unfolding sum digit
+sub-result-2 c =
+    let e = c .before .before .args .e in
+    omega (arith, right-le e _ 8 (c .before .right .result) refl (c .before .right .ensures), right-le e _ 8 (c .right2 .result) refl (c .right2 .ensures))
 
 returns : tie.Need-returns
 returns c = wrong-16 (c .before .before .args .e) _ (c .before .right .result) (c .right2 .result) (c .before .right .ensures) (c .right2 .ensures) refl

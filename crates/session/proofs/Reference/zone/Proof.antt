@@ -1,5 +1,6 @@
 -- `zone` meets its contract, case by case.
 use mathlib.Core.Path.{sym, ap, _∙_}
+use native.Mathlib.Omega.{arith}
 use borrow.Author.Needs.{needs}
 use borrow.Author.Tests.{ltb-true}
 use Rattle.session.specs.declared.Zone.the-variants.{Known}
@@ -14,7 +15,8 @@ sub-mod-requires : tie.Need-sub-mod-requires
 unfolding isBelow
 sub-mod-requires c κs =
     let s = c .before .before .before in
-    (s .pre .0, s .pre .2, ltb-true _ _ (sym (ap (isBelow (s .args .q)) (c .before .self .given .1)) ∙ s .pre .1))
+    let l = ltb-true (c .before .self .given .0 .0) (s .args .q) (sym (ap (isBelow (s .args .q)) (c .before .self .given .1)) ∙ s .pre .1) in
+    (s .pre .0, omega (arith, l, s .pre .2), omega (arith, l, s .pre .2))
 
 enum-told : tie.Need-enum-told
 enum-told c = search needs

@@ -35,7 +35,9 @@ add-mod-requires c κs =
 write-requires : tie.Need-write-requires
 write-requires c κs =
     let e = c .before .before .before in
-    send-sendable _ _ _ _ (e .before .refusal .ensures) (e .if1 .left) _ (mod-below _ _ _ (sender-parts _ (yes e .sound) .alphabet) (c .before .add-mod .ensures))
+    let p = sender-parts _ (yes e .sound) in
+    let b = mod-below _ _ _ (p .alphabet) (c .before .add-mod .ensures) in
+    send-sendable _ _ _ _ (e .before .refusal .ensures) (e .if1 .left) _ (omega (arith, p .last, b))
 
 add-t14 : tie.Need-add-t14
 add-t14 c = omega (arith, yes (c .before .before .before .before .before .before .before) .room)
