@@ -132,16 +132,16 @@ module _ (m : ℕ) (re im : List Float) where
       halves (suc (suc (suc (suc m)))) h e = omega arith
 
   -- all sums
-  pub all-both : (s u : List Sums) → Samples m re im → SumsTo re im (length re / 2) s m → Stored (sumsOf m re im) 0 s u 2 → AllSums m re im u
+  pub all-both : (e : ℕ) (s u : List Sums) → e ≡ 2 → Samples m re im → SumsTo re im (length re / 2) s m → Stored (sumsOf m re im) 0 s u e → AllSums m re im u
   unfolding sumsOf votesOf
-  all-both s u S t d = record {
-    rest = record { size = d .size; past = λ l h. d .rest l (omega (arith, h, S .low)) ∙ t .rest .past l h };
-    each = λ l h. each l h (leb 2 l) refl;
+  all-both e s u E S t d = record {
+    rest = record { size = d .size; past = λ l h. d .rest l (omega (arith, E, h, S .low)) ∙ t .rest .past l h };
+    each = λ l h. each l h (leb e l) refl;
   }
     where
-      each : (l : ℕ) → l < m → (c : Bool) → leb 2 l ≡ c → held u l ≡ voteSums f32 m l (sample f32 re im)
-      each l h true c = d .rest l (leb-true 2 l c) ∙ t .each l (leb-true 2 l c) h ∙ votes-all f32 m l (length re / 2) (sample f32 re im) h (even-samples m re (length re / 2) S refl)
-      each l h false c = d .done l (omega arith) (leb-false 2 l c)
+      each : (l : ℕ) → l < m → (c : Bool) → leb e l ≡ c → held u l ≡ voteSums f32 m l (sample f32 re im)
+      each l h true c = d .rest l (leb-true e l c) ∙ t .each l (omega (arith, E, leb-true e l c)) h ∙ votes-all f32 m l (length re / 2) (sample f32 re im) h (even-samples m re (length re / 2) S refl)
+      each l h false c = d .done l (omega arith) (leb-false e l c)
 
 -- ---- no sums
 rest-held : (n l : ℕ) → held (nones n) l ≡ pair none

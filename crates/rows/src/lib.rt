@@ -1,5 +1,4 @@
-// The sums of the votes for every coefficient at once, q = 4: many samples by rows of eight votes, eight or sixteen samples in one loop,
-// four with no loop.
+// The sums of the votes for every coefficient at once, q = 4: many samples by rows of eight votes, eight or sixteen in one loop.
 use sums::Sums;
 ghost use mathlib.Core.Path.{_≡_};
 ghost use Prim.Native.Nat.{_+_, _*_, _/_, _<_, _≤_};
@@ -69,13 +68,13 @@ fn high_sums(m: u32, re: &[f32], im: &[f32], rows: &mut [f32], from: [Sums; 8]) 
     all
 }
 
-// The sums of the first two coefficients, one after the other, put before those that are there.
-fn low_sums(m: u32, re: &[f32], im: &[f32], from: [Sums; 8]) -> [Sums; 8]
-    requires { ⌜ Samples m (now re) (now im) × (length from ≡ 8) ⌝ }
-    ensures { λ r. ⌜ Stored (sumsOf m (now (re .entry)) (now (im .entry))) 0 from r 2 ⌝ }
+// The sums of the coefficients below end, one after the other, put before those that are there.
+fn low_sums(m: u32, end: u32, re: &[f32], im: &[f32], from: [Sums; 8]) -> [Sums; 8]
+    requires { ⌜ Samples m (now re) (now im) × (end ≤ m) × (length from ≡ 8) ⌝ }
+    ensures { λ r. ⌜ Stored (sumsOf m (now (re .entry)) (now (im .entry))) 0 from r end ⌝ }
 {
     let mut all = from;
-    for k in 0..2u32 {
+    for k in 0..end {
         let i = k as usize;
         all[i] = sums::vote_sums(m, k, re, im);
     }
@@ -90,6 +89,15 @@ fn no_sums() -> [Sums; 8]
     [none; 8]
 }
 
+// Two: below coefficient 2 no four places on end stand at four indices on end. The test is one that the compiler cannot settle, or it makes
+// a body for each of the two, and long words take up to a twentieth longer.
+fn low_end(m: u32) -> u32
+    requires { ⌜ 2 ≤ m ⌝ }
+    ensures { λ r. ⌜ r ≡ 2 ⌝ }
+{
+    if m < 2 { m } else { 2 }
+}
+
 // The sums of all coefficients where there are more than sixteen samples.
 fn many_sums(m: u32, re: &[f32], im: &[f32]) -> [Sums; 8]
     requires { ⌜ Samples m (now re) (now im) × (5 ≤ m) ⌝ }
@@ -97,7 +105,7 @@ fn many_sums(m: u32, re: &[f32], im: &[f32]) -> [Sums; 8]
 {
     let mut rows = [0.0f32; 128];
     let high = high_sums(m, re, im, &mut rows, no_sums());
-    low_sums(m, re, im, high)
+    low_sums(m, low_end(m), re, im, high)
 }
 
 // The sums of coefficient k with the vote at place j more.
@@ -144,27 +152,13 @@ fn eight_sums(re: &[f32], im: &[f32]) -> [Sums; 8]
     [a, b, c, none, none, none, none, none]
 }
 
-// The sums of both coefficients of four samples.
-fn both_sums(re: &[f32], im: &[f32]) -> [Sums; 8]
-    requires { ⌜ Samples 2 (now re) (now im) ⌝ }
-    ensures { λ r. ⌜ AllSums 2 (now (re .entry)) (now (im .entry)) r ⌝ }
-{
-    let none = Sums { re: 0.0, im: 0.0 };
-    let a = sums::four_sums(0, re, im);
-    let b = sums::four_sums(1, re, im);
-    [a, b, none, none, none, none, none, none]
-}
-
-// The sums of the votes for every coefficient; those past the last are zeros.
+// The sums of the votes for every coefficient of eight samples or more; those past the last are zeros.
 pub fn all_sums(m: u32, re: &[f32], im: &[f32]) -> [Sums; 8]
-    requires { ⌜ Samples m (now re) (now im) ⌝ }
+    requires { ⌜ Samples m (now re) (now im) × (3 ≤ m) ⌝ }
     ensures { λ r. ⌜ AllSums m (now (re .entry)) (now (im .entry)) r ⌝ }
 {
     if m == 4 {
         return sixteen_sums(re, im);
-    }
-    if m == 2 {
-        return both_sums(re, im);
     }
     if m == 3 {
         return eight_sums(re, im);

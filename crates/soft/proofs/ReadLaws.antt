@@ -21,6 +21,7 @@ use Rattle.samples.specs.Complex.{Complex, sample}
 use Rattle.samples.specs.Decision.{Decision, decide, isSure, symbol}
 use Rattle.samples.specs.Soft.{voteSums, coefficient, constantSums, decision, softMessage, allInRange, allSure, readRefusal, readAnswer, readMessage}
 use Rattle.samples.proofs.DecisionLaws.{symbol-lt, constant-ext, all-sure}
+use Rattle.sums.specs.Work.{Samples}
 use Rattle.turns.specs.Work.{Coefficients, coefficientsIn}
 use Rattle.soft.specs.Work.{sliceRefusal, sampleRefusal, sureTo, Found, constantDecision}
 
@@ -76,6 +77,28 @@ module _ (m : ℕ) (re im : List Float) where
       → d ≡ decide f32 z → d ≡ constantDecision m re im
   unfolding coefficientsIn constantDecision
   constant-found f z d g e h = h ∙ ap (decide f32) (e ∙ constant-ext f32 m _ _ (sample f32 re im) (g .each))
+
+  -- ---- two coefficients
+  pub both-sure : (s t : Bool) → s ≡ isSure (decide f32 (voteSums f32 m 0 (sample f32 re im))) → t ≡ isSure (decide f32 (voteSums f32 m 1 (sample f32 re im))) → (s && t) ≡ sureTo m re im 2
+  unfolding sureTo every
+  both-sure s t e f = ap₂ _&&_ e f
+
+  pub both-found : (u v : ℕ) (f : List ℕ) → length f ≡ 9 → at f 0 ≡ 0 → u ≡ symbol (decide f32 (voteSums f32 m 0 (sample f32 re im)))
+      → v ≡ symbol (decide f32 (voteSums f32 m 1 (sample f32 re im))) → Found m re im 2 (set (set f 1 u) 2 v)
+  both-found u v f e z U W = found-next 1 v (set f 1 u) (omega arith) (found-next 0 u f (omega arith) (found-none f e z) U) W
+
+  pub both-told : (t : Bool) (f : List ℕ) → m ≡ 2 → (t ≡ sureTo 2 re im 2) × (t ≡ true → Found 2 re im 2 f) → (t ≡ sureTo m re im m) × (t ≡ true → Found m re im m f)
+  both-told t f e g = rw e g
+
+  pub four-samples : m ≡ 2 → Samples m re im → Samples 2 re im
+  four-samples e s = rw e at s
+
+  pub four-found : (f : List ℕ) → m ≡ 2 → Samples m re im → Found m re im m f → Samples 2 re im × Coefficients 2 f
+  four-found f e s g = (four-samples e s, rw e at (found-coefficients f g))
+
+  pub four-constant : (f : List ℕ) (z : Complex Float) (d : Decision Float) → m ≡ 2 → Found m re im m f → z ≡ constantSums f32 2 (coefficientsIn f) (sample f32 re im)
+      → d ≡ decide f32 z → d ≡ constantDecision m re im
+  four-constant f z d e g h = constant-found f z d g (h ∙ ap (λ o. constantSums f32 o (coefficientsIn f) (sample f32 re im)) (sym e))
 
   -- ---- whether all are sure
   all-parts : allSure f32 m (sample f32 re im) ≡ (isSure (constantDecision m re im) && sureTo m re im m)

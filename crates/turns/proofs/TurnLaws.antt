@@ -5,11 +5,12 @@ use mathlib.Core.Bool.{true}
 use mathlib.Core.List.{List, [], _∷_}
 use native.Mathlib.Nat.{mod-lt, zero-add, le-of-suc-le-suc}
 use native.Mathlib.Omega.{arith}
-use lib.Bits.{bitAnd}
+use lib.Bits.{bitAnd, and-mask}
 use lib.ListN.{length, getD}
 use lib.Pow.{pow-mono}
 use lib.Ieee.{Float, binary32, ofBits, neg, nan}
-use Rattle.theory.specs.Sum.{at}
+use Rattle.theory.specs.Sum.{at, sum}
+use Rattle.theory.specs.Index.{bit}
 use Rattle.theory.specs.Code.{linear, symbolAt}
 use Rattle.theory.specs.Question.{isAlphabet}
 use Rattle.codeword.specs.Coded.{Fits, Written}
@@ -92,3 +93,30 @@ pub turn-room : (m : ℕ) (found turns : List ℕ) (re im : List Float) → Samp
 turn-room m found turns re im s t i h =
     let l : i < 2 ^ m = omega (arith, s .reals) in
     (omega (arith, t .size, pow-mono {i = m} {j = 8} (s .high)), h, omega (arith, s .reals, s .imaginaries), turns-below m found turns t i l)
+
+-- ---- four samples
+pub masked-below : (x : ℕ) → bitAnd x 3 < 4
+masked-below x = omega (arith, and-mask x 2)
+
+module _ (found : List ℕ) (c : Coefficients 2 found) where
+  pub both-below : (at found 1 < 4) × (at found 2 < 4)
+  both-below = (c .below 0 (omega arith), c .below 1 (omega arith))
+
+  -- their quarter turns: none, a_0, a_1, and both
+  four-turns : (0 ≡ linear 2 (coefficientsIn found) 0 % 4) × (at found 1 ≡ linear 2 (coefficientsIn found) 1 % 4) × (at found 2 ≡ linear 2 (coefficientsIn found) 2 % 4)
+      × (bitAnd (at found 1 + at found 2) 3 ≡ linear 2 (coefficientsIn found) 3 % 4)
+  unfolding linear sum bit coefficientsIn
+  four-turns = (omega arith, omega (arith, both-below .0), omega (arith, both-below .1), omega (arith, and-mask (at found 1 + at found 2) 2))
+
+  -- the sums of four samples, one after the other
+  pub four-back : (re im : List Float) (p r s t : Complex Float)
+      → p ≡ plus f32 (complex (ofBits binary32 0) (ofBits binary32 0)) (turnBack f32 0 (sample f32 re im 0))
+      → r ≡ plus f32 p (turnBack f32 (at found 1) (sample f32 re im 1))
+      → s ≡ plus f32 r (turnBack f32 (at found 2) (sample f32 re im 2))
+      → t ≡ plus f32 s (turnBack f32 (bitAnd (at found 1 + at found 2) 3) (sample f32 re im 3))
+      → t ≡ constantSums f32 2 (coefficientsIn found) (sample f32 re im)
+  four-back re im p r s t P R S T = back-end 2 (coefficientsIn found) re im 4 t (next 3 _ s t (next 2 _ r s (next 1 _ p r (next 0 _ _ p (back-none 2 (coefficientsIn found) re im) (four-turns .0) P) (four-turns .1) R) (four-turns .2) S) (four-turns .3) T) refl
+    where
+      next : (i u : ℕ) (x y : Complex Float) → x ≡ backTo f32 2 (coefficientsIn found) (sample f32 re im) i → u ≡ linear 2 (coefficientsIn found) i % 4
+          → y ≡ plus f32 x (turnBack f32 u (sample f32 re im i)) → y ≡ backTo f32 2 (coefficientsIn found) (sample f32 re im) (i + 1)
+      next i u x y e f g = back-next 2 (coefficientsIn found) re im i u x y _ e f refl g

@@ -32,12 +32,20 @@ fn turn_back(t: u8, x: f32, y: f32) -> Sums
     }
 }
 
-// The sample at index i turned back by its quarter turns.
+// The sample at index i turned back by t quarter turns.
+fn turned_by(t: u8, i: usize, re: &[f32], im: &[f32]) -> Sums
+    requires { ⌜ (t < 4) × (i < length (now re)) × (i < length (now im)) ⌝ }
+    ensures { λ r. ⌜ pair r ≡ turnBack f32 t (sample f32 (now (re .entry)) (now (im .entry)) i) ⌝ }
+{
+    turn_back(t, sums::part(re, i), sums::part(im, i))
+}
+
+// The same by the quarter turns that stand at index i.
 fn turned(i: usize, turns: &[u8], re: &[f32], im: &[f32]) -> Sums
     requires { ⌜ (i < length (now turns)) × (i < length (now re)) × (i < length (now im)) × (at (now turns) i < 4) ⌝ }
     ensures { λ r. ⌜ pair r ≡ turnBack f32 (at (now (turns .entry)) i) (sample f32 (now (re .entry)) (now (im .entry)) i) ⌝ }
 {
-    turn_back(turns[i], sums::part(re, i), sums::part(im, i))
+    turned_by(turns[i], i, re, im)
 }
 
 // Both sums of all samples, each turned back by its quarter turns, upward: two at a time.
@@ -52,4 +60,17 @@ pub fn constant_sums(m: u32, found: &[u8], turns: &[u8], re: &[f32], im: &[f32])
         all = sums::add(all, turned(i + 1, turns, re, im));
     }
     all
+}
+
+// The same sums of four samples, with no loop and no word: the coefficients ask for no turn, a_0, a_1, and both.
+pub fn four_sums(found: &[u8], re: &[f32], im: &[f32]) -> Sums
+    requires { ⌜ Samples 2 (now re) (now im) × Coefficients 2 (now found) ⌝ }
+    ensures { λ r. ⌜ pair r ≡ constantSums f32 2 (coefficientsIn (now (found .entry))) (sample f32 (now (re .entry)) (now (im .entry))) ⌝ }
+{
+    let a = found[1];
+    let b = found[2];
+    let one = sums::add(Sums { re: 0.0, im: 0.0 }, turned_by(0, 0, re, im));
+    let two = sums::add(one, turned_by(a, 1, re, im));
+    let three = sums::add(two, turned_by(b, 2, re, im));
+    sums::add(three, turned_by((a + b) & 3, 3, re, im))
 }

@@ -6,28 +6,22 @@ use Rattle.rows.proofs.all_sums.Statement.{statement}
 use Rattle.rows.proofs.all_sums.Tie as tie
 
 sixteen-sums-requires : tie.Need-sixteen-sums-requires
-sixteen-sums-requires c κs = let s = c .before .before .before in samples-by (s .args .m) 4 _ _ (omega arith) (s .pre)
+sixteen-sums-requires c κs = let s = c .before .before .before in samples-by (s .args .m) 4 _ _ (omega arith) (s .pre .0)
 
 returns : tie.Need-returns
 returns c = all-of 4 (c .before .before .before .before .args .m) _ _ _ (omega arith) (c .sixteen-sums .ensures)
 
-both-sums-requires : tie.Need-both-sums-requires
-both-sums-requires c κs = let s = c .before .before .before .before in samples-by (s .args .m) 2 _ _ (omega arith) (s .pre)
+eight-sums-requires : tie.Need-eight-sums-requires
+eight-sums-requires c κs = let s = c .before .before .before .before in samples-by (s .args .m) 3 _ _ (omega arith) (s .pre .0)
 
 returns-2 : tie.Need-returns-2
-returns-2 c = all-of 2 (c .before .before .before .before .before .args .m) _ _ _ (omega arith) (c .both-sums .ensures)
-
-eight-sums-requires : tie.Need-eight-sums-requires
-eight-sums-requires c κs = let s = c .before .before .before .before .before in samples-by (s .args .m) 3 _ _ (omega arith) (s .pre)
-
-returns-3 : tie.Need-returns-3
-returns-3 c = all-of 3 (c .before .before .before .before .before .before .args .m) _ _ _ (omega arith) (c .eight-sums .ensures)
+returns-2 c = all-of 3 (c .before .before .before .before .before .args .m) _ _ _ (omega arith) (c .eight-sums .ensures)
 
 many-sums-requires : tie.Need-many-sums-requires
-many-sums-requires c κs = let s = c .before .before .before .before .before in (s .pre, omega (arith, s .pre .low))
+many-sums-requires c κs = let s = c .before .before .before .before in (s .pre .0, omega (arith, s .pre .1))
 
-returns-4 : tie.Need-returns-4
-returns-4 c = search needs
+returns-3 : tie.Need-returns-3
+returns-3 c = search needs
 
 pub all-sums-spec : {M : Type 1} → statement M
 all-sums-spec =
@@ -35,9 +29,7 @@ all-sums-spec =
     (tie.spec
     sixteen-sums-requires
     returns
-    both-sums-requires
-    returns-2
     eight-sums-requires
-    returns-3
+    returns-2
     many-sums-requires
-    returns-4)
+    returns-3)

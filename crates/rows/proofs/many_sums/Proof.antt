@@ -17,11 +17,16 @@ high-sums-requires c κs =
     let s = c .before .before .before .before in
     (s .pre .0, omega (arith, s .pre .1), refl, sums-zero _ _ _ _ (c .no-sums .ensures))
 
+low-end-requires : tie.Need-low-end-requires
+low-end-requires c κs = search needs
+
 low-sums-requires : tie.Need-low-sums-requires
 low-sums-requires c κs = search needs
 
 returns : tie.Need-returns
-returns c = all-both _ _ _ _ _ (c .before .before .before .before .before .before .before .pre .0) (c .before .before .high-sums .ensures) (c .low-sums .ensures)
+returns c =
+    let s = c .before .before .before .before .before .before .before .before in
+    all-both _ _ _ (c .before .low-end .result) _ _ (c .before .low-end .ensures) (s .pre .0) (c .before .before .before .high-sums .ensures) (c .low-sums .ensures)
 
 pub many-sums-spec : {M : Type 1} → statement M
 many-sums-spec =
@@ -30,5 +35,6 @@ many-sums-spec =
     slice-aggregate-high-sums
     no-sums-requires
     high-sums-requires
+    low-end-requires
     low-sums-requires
     returns)
