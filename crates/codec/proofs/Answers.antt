@@ -6,8 +6,12 @@ use mathlib.Core.List.{List}
 use native.Mathlib.Omega.{arith}
 use lib.Pow.{pow-mono}
 use Rattle.theory.specs.Sum.{at}
+use Rattle.theory.specs.Vote.{tally}
+use Rattle.theory.specs.Margin.{lead, margin}
 use Rattle.theory.specs.Nearest.{nearMessage, nearDistance, nearMargin}
 use Rattle.theory.proofs.CodeLaws.{distance-le}
+use Rattle.theory.proofs.MarginLaws.{least-le}
+use Rattle.theory.proofs.ErrorLaws.{votes-le-half}
 use Rattle.theory.proofs.QuestionLaws.{answer-accepted, answer-refused}
 use Rattle.codec.specs.Codec.{encodeRefusal, encodeAnswer, encoded, decodeRefusal, decodeAnswer, decoded}
 use Rattle.codec.specs.declared.Reading.{Reading}
@@ -38,9 +42,12 @@ module _ (q m : ℕ) (message word : List ℕ) where
     unfolding decoded decodeAnswer
     decode-number n f = answer-refused _ _ _ (sym (ap decoded f) ∙ e)
 
-    -- the count of an accepted word is small
-    pub decode-small : (s : Reading) → r ≡ D.Read s → s .wrong ≤ 256
-    unfolding nearDistance
+    -- the count and the margin of an accepted word are small
+    pub decode-small : (s : Reading) → r ≡ D.Read s → (s .wrong ≤ 256) × (s .margin ≤ 256)
+    unfolding nearDistance nearMargin margin lead tally
     decode-small s f =
         let (z, x, y) = decode-read s f in
-        omega (arith, x, distance-le q m (at (nearMessage q m word)) (at word), pow-mono {i = m} {j = 8} (readable q m message word (decode-word q m message word z) .sized .high))
+        let sized = readable q m message word (decode-word q m message word z) .sized in
+        let n = pow-mono {i = m} {j = 8} (sized .high) in
+        let t = at (nearMessage q m word) in
+        (omega (arith, x, distance-le q m t (at word), n), omega (arith, y, least-le m (λ k. lead q (t k) (tally q m t (at word) k)) 1 (omega (arith, sized .low)), votes-le-half q m 0 (at word) (omega (arith, sized .low)) (t 1), n))

@@ -8,51 +8,63 @@ use native.Mathlib.Nat.{not-suc-le-zero, le-of-suc-le-suc, mod-eq-of-lt, mul-com
 use native.Mathlib.Numerals.{add-one}
 use lib.ListN.{length, set, length-set}
 use lib.Seq.{getD-set-same, getD-set-other}
-use Rattle.theory.specs.Sum.{at}
+use borrow.Author.Tests.{eqb-true}
+use lib.Dec.{eqb}
+use Rattle.theory.specs.Sum.{at, every}
+use Rattle.theory.proofs.EveryLaws.{every-at}
 use Rattle.digits.specs.Digit.{digit}
-use Rattle.digits.proofs.DigitLaws.{digit-add, add-lt, digit-times, times-lt, digit-even, digit-odd}
-use Rattle.lanes.specs.Lane.{offset, Held, Loaded}
+use Rattle.digits.proofs.DigitLaws.{digit-add, sub-le, digit-times, times-lt, digit-even, digit-odd}
+use Rattle.lanes.specs.Lane.{offset, Low, Held, Loaded}
 
-module _ (w : List ℕ) (i a b : ℕ) (ha : a < 18446744073709551616) (hb : b < 18446744073709551616)
-    (first : (l : ℕ) → l < 8 → digit 8 a l ≡ at w (i + l)) (second : (l : ℕ) → l < 8 → digit 8 b l ≡ at w (i + 8 + l))
-    (low : (l : ℕ) → l < 8 → (at w (i + l) < 16) × (at w (i + 8 + l) < 16)) where
+-- the bytes of eight symbols that fit a lane, whichever they are
+pub low-bytes : (w : List ℕ) (place : ℕ → ℕ) (a : ℕ) → ((l : ℕ) → l < 8 → digit 8 a l ≡ at w (place l)) → Low w → ((l : ℕ) → l < 8 → place l < length w) → (l : ℕ) → l < 8 → digit 8 a l < 16
+low-bytes w place a e low fits l h = omega (arith, e l h, low (place l) (fits l h))
+
+fifteen-bytes : (l : ℕ) → l < 8 → digit 8 0x0f0f_0f0f_0f0f_0f0f l ≡ 15
+unfolding every digit
+fifteen-bytes l h = eqb-true _ _ (every-at 8 (λ l. eqb (digit 8 0x0f0f_0f0f_0f0f_0f0f l) 15) refl l h)
+
+-- such a number is small
+pub low-le : (a : ℕ) → a < 18446744073709551616 → ((l : ℕ) → l < 8 → digit 8 a l < 16) → a ≤ 0x0f0f_0f0f_0f0f_0f0f
+low-le a ha la = sub-le 8 8 0x0f0f_0f0f_0f0f_0f0f a (omega arith) ha (λ l h. omega (arith, fifteen-bytes l h, la l h))
+
+module _ (a b : ℕ) (ha : a < 18446744073709551616) (hb : b < 18446744073709551616)
+    (la : (l : ℕ) → l < 8 → digit 8 a l < 16) (lb : (l : ℕ) → l < 8 → digit 8 b l < 16) where
   grown : (l : ℕ) → l < 8 → 16 * digit 8 b l < 2 ^ 8
-  grown l h = omega (arith, second l h, low l h .1)
+  grown l h = omega (arith, lb l h)
 
   -- the second eight, shifted, fit
   shifted : (b * 2 ^ 4) % 18446744073709551616 ≡ 16 * b
   shifted = ap (λ z. z % 18446744073709551616) (mul-comm b 16) ∙ mod-eq-of-lt (times-lt 8 8 16 b hb grown)
 
   bytes : (l : ℕ) → l < 8 → digit 8 a l + digit 8 (16 * b) l < 2 ^ 8
-  bytes l h = omega (arith, first l h, second l h, low l h .0, low l h .1, digit-times 8 8 16 b hb grown l h)
+  bytes l h = omega (arith, la l h, lb l h, digit-times 8 8 16 b hb grown l h)
 
-  pub sixteen-lt : a + (b * 2 ^ 4) % 18446744073709551616 < 18446744073709551616
-  sixteen-lt = rw shifted (add-lt 8 8 a (16 * b) ha (times-lt 8 8 16 b hb grown) bytes)
+  module _ (w : List ℕ) (i : ℕ) (first : (l : ℕ) → l < 8 → digit 8 a l ≡ at w (i + l)) (second : (l : ℕ) → l < 8 → digit 8 b l ≡ at w (i + 8 + l)) where
+    byte : (l : ℕ) → l < 8 → digit 8 (a + 16 * b) l ≡ at w (i + l) + 16 * at w (i + 8 + l)
+    byte l h =
+        digit-add 8 8 a (16 * b) ha (times-lt 8 8 16 b hb grown) bytes l h
+        ∙ ap₂ (λ x y. x + y) (first l h) (digit-times 8 8 16 b hb grown l h ∙ ap (λ z. 16 * z) (second l h))
 
-  byte : (l : ℕ) → l < 8 → digit 8 (a + 16 * b) l ≡ at w (i + l) + 16 * at w (i + 8 + l)
-  byte l h =
-      digit-add 8 8 a (16 * b) ha (times-lt 8 8 16 b hb grown) bytes l h
-      ∙ ap₂ (λ x y. x + y) (first l h) (digit-times 8 8 16 b hb grown l h ∙ ap (λ z. 16 * z) (second l h))
-
-  -- THE LANES of the two together
-  pub sixteen-held : Held w i (a + (b * 2 ^ 4) % 18446744073709551616)
-  unfolding offset
-  sixteen-held t h = rw shifted (go (t / 2) (t % 2) refl refl)
-    where
-      go : (l p : ℕ) → t / 2 ≡ l → t % 2 ≡ p → digit 4 (a + 16 * b) t ≡ at w (i + (8 * (t % 2) + t / 2))
-      go l zero e f =
-          let g : t ≡ 2 * l = omega arith in
-          let k : l < 8 = omega arith in
-          let place : i + l ≡ i + (8 * (t % 2) + t / 2) = omega arith in
-          let value : (at w (i + l) + 16 * at w (i + 8 + l)) % 16 ≡ at w (i + l) = omega (arith, low l k .0) in
-          ap (digit 4 (a + 16 * b)) g ∙ digit-even 4 (a + 16 * b) l ∙ ap (λ z. z % 16) (byte l k) ∙ value ∙ ap (at w) place
-      go l (suc zero) e f =
-          let g : t ≡ 2 * l + 1 = omega arith in
-          let k : l < 8 = omega arith in
-          let place : i + 8 + l ≡ i + (8 * (t % 2) + t / 2) = omega arith in
-          let value : (at w (i + l) + 16 * at w (i + 8 + l)) / 16 ≡ at w (i + 8 + l) = omega (arith, low l k .0) in
-          ap (digit 4 (a + 16 * b)) g ∙ digit-odd 4 (a + 16 * b) l ∙ ap (λ z. z / 16) (byte l k) ∙ value ∙ ap (at w) place
-      go l (suc (suc p)) e f = absurd (omega arith)
+    -- THE LANES of the two together
+    pub sixteen-held : Held w i (a + (b * 2 ^ 4) % 18446744073709551616)
+    unfolding offset
+    sixteen-held t h = rw shifted (go (t / 2) (t % 2) refl refl)
+      where
+        go : (l p : ℕ) → t / 2 ≡ l → t % 2 ≡ p → digit 4 (a + 16 * b) t ≡ at w (i + (8 * (t % 2) + t / 2))
+        go l zero e f =
+            let g : t ≡ 2 * l = omega arith in
+            let k : l < 8 = omega arith in
+            let place : i + l ≡ i + (8 * (t % 2) + t / 2) = omega arith in
+            let value : (at w (i + l) + 16 * at w (i + 8 + l)) % 16 ≡ at w (i + l) = omega (arith, first l k, la l k) in
+            ap (digit 4 (a + 16 * b)) g ∙ digit-even 4 (a + 16 * b) l ∙ ap (λ z. z % 16) (byte l k) ∙ value ∙ ap (at w) place
+        go l (suc zero) e f =
+            let g : t ≡ 2 * l + 1 = omega arith in
+            let k : l < 8 = omega arith in
+            let place : i + 8 + l ≡ i + (8 * (t % 2) + t / 2) = omega arith in
+            let value : (at w (i + l) + 16 * at w (i + 8 + l)) / 16 ≡ at w (i + 8 + l) = omega (arith, first l k, la l k) in
+            ap (digit 4 (a + 16 * b)) g ∙ digit-odd 4 (a + 16 * b) l ∙ ap (λ z. z / 16) (byte l k) ∙ value ∙ ap (at w) place
+        go l (suc (suc p)) e f = absurd (omega arith)
 
 -- one number more
 pub loaded-none : (w x : List ℕ) → Loaded w x x 0

@@ -40,5 +40,5 @@ rows-next b u v l h r = record { size = r .size; each = λ a c i k. go a c i (eq
     go a c i (inl z) = ap (λ y. at v (a + 16 * y)) z ∙ r .each a i ∙ ap (λ y. 256 ^ a + 256 ^ y) (sym z)
     go a c i (inr z) = r .below (a + 16 * c) (omega arith) ∙ h .each a c i z
 
-pub rows-all : (n q : ℕ) (u : List ℕ) → n ≡ q → Pairs n u → Pairs q u
-rows-all n q u e r = rw e at r
+pub rows-all : (n q : ℕ) (u : List ℕ) → q ≤ n → Pairs n u → Pairs q u
+rows-all n q u e r = record { size = r .size; each = λ a b l k. r .each a b l (omega arith) }

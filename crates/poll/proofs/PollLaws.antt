@@ -4,7 +4,7 @@ use mathlib.Core.Path.{_≡_, refl, ap, ap₂, sym, _∙_}
 use mathlib.Core.List.{List}
 use native.Mathlib.Omega.{arith}
 use native.Mathlib.Nat.{div-one, pow-le-pow-right, le-of-suc-le-suc, mul-comm, mul-add, add-assoc}
-use lib.Bits.{bitAnd, and-mask}
+use lib.Bits.{bitAnd, and-mask, and-mod, and-le-l, and-le-r}
 use lib.Pow.{shr-shr, pow-mono}
 use Rattle.theory.specs.Sum.{sum, at}
 use Rattle.theory.specs.Index.{bit, ifClear}
@@ -35,8 +35,12 @@ byte d =
     let h : digits.digit 4 d 1 ≡ d % 256 / 16 = digit-odd 4 d 0 ∙ ap (λ z. z / 16) e in
     and-mask d 8 ∙ omega (arith, l, h)
 
-pub byte-lt : (d : ℕ) → digits.digit 4 d 0 < 8 → digits.digit 4 d 1 < 8 → bitAnd d 255 < 128
-byte-lt d l h = omega (arith, byte d)
+pub byte-fits : (d n : ℕ) → n < 256 → bitAnd d n * 8 < 18446744073709551616
+byte-fits d n s = omega (arith, and-le-r d n)
+
+-- the index is one of the table's, whichever part of the byte is read
+pub byte-lt : (d n : ℕ) → digits.digit 4 d 0 < 8 → digits.digit 4 d 1 < 8 → n < 256 → bitAnd d n < 128
+byte-lt d n l h s = omega (arith, byte d, and-mask d 8, and-mod d n 8, and-le-l (d % 256) (n % 256), and-le-r d n)
 
 pub byte-entry : (u : List ℕ) (d : ℕ) → at u (bitAnd d 255) ≡ at u (digits.digit 4 d 0 + 16 * digits.digit 4 d 1)
 byte-entry u d = ap (at u) (byte d)
@@ -148,16 +152,13 @@ module _ (q m k : ℕ) (x : List ℕ) (v : Votes q m x) (h : k < m) where
   }
 
   pub ballots-next : (j t d u : ℕ) → j < 2 ^ (m - 5) → Balloted q m k x j t → BallotOf q k j x d → u ≡ sum 16 (λ t. 256 ^ digits.digit 4 d t) → u ≤ 16 * 72057594037927936
-      → (t + u < 18446744073709551616) × Balloted q m k x (j + 1) (t + u)
+      → Balloted q m k x (j + 1) (t + u)
   unfolding ballotUnits
   ballots-next j t d u l (b, e) s f g = (
-    omega (arith, few-ballots),
-    (
-      omega arith,
-      λ w p.
-          ap₂ (λ y z. y + z) (e w p) (f ∙ sum-ext 16 _ _ (λ i n. ap (λ z. 256 ^ z) (s w (2 ^ (m - 4)) p (λ c. omega (arith, power)) (far-partner j l) i n)))
-          ∙ sym (sum-next j (λ j. sum 16 (λ t. 256 ^ vote q k (at w) (spot k j t)))),
-    ),
+    omega arith,
+    λ w p.
+        ap₂ (λ y z. y + z) (e w p) (f ∙ sum-ext 16 _ _ (λ i n. ap (λ z. 256 ^ z) (s w (2 ^ (m - 4)) p (λ c. omega (arith, power)) (far-partner j l) i n)))
+        ∙ sym (sum-next j (λ j. sum 16 (λ t. 256 ^ vote q k (at w) (spot k j t)))),
   )
 
   pub ballots-all : (j t : ℕ) → j ≡ 2 ^ (m - 5) → Balloted q m k x j t → VotesOf q m k x t
@@ -180,19 +181,16 @@ pub gaps-none : (q f : ℕ) (x y : List ℕ) → Gapped q f x y 0 0
 unfolding gapUnits sum
 gaps-none q f x y = (omega arith, λ w c s p r l. refl)
 
-pub gaps-next : (q f : ℕ) (x y : List ℕ) (n t d u : ℕ) → n < 8 → Gapped q f x y n t
+pub gaps-next : (q f : ℕ) (x y : List ℕ) (n t d u : ℕ) → Gapped q f x y n t
     → Lanes d (λ t. subMod q (digits.digit 4 (at x (f + n)) t) (digits.digit 4 (at y (f + n)) t)) → u ≡ sum 16 (λ t. 256 ^ digits.digit 4 d t) → u ≤ 16 * 72057594037927936
-    → (t + u < 18446744073709551616) × Gapped q f x y (n + 1) (t + u)
+    → Gapped q f x y (n + 1) (t + u)
 unfolding gapUnits
-gaps-next q f x y n t d u l (b, e) s g h = (
+gaps-next q f x y n t d u (b, e) s g h = (
   omega arith,
-  (
-    omega arith,
-    λ w c z p r k.
-        ap₂ (λ a b. a + b) (e w c z p r (omega arith)) (g ∙ sum-ext 16 _ _ (λ i j.
-        ap (λ a. 256 ^ a) (s i j ∙ ap₂ (subMod q) (p (f + n) (omega arith) i j) (r (f + n) (omega arith) i j))))
-        ∙ sym (sum-next n (λ j. sum 16 (λ t. 256 ^ subMod q (at w (16 * (f + j) + offset t)) (at c (16 * (f + j) + offset t))))),
-  ),
+  λ w c z p r k.
+      ap₂ (λ a b. a + b) (e w c z p r (omega arith)) (g ∙ sum-ext 16 _ _ (λ i j.
+      ap (λ a. 256 ^ a) (s i j ∙ ap₂ (subMod q) (p (f + n) (omega arith) i j) (r (f + n) (omega arith) i j))))
+      ∙ sym (sum-next n (λ j. sum 16 (λ t. 256 ^ subMod q (at w (16 * (f + j) + offset t)) (at c (16 * (f + j) + offset t))))),
 )
 
 pub gaps-all : (q f : ℕ) (x y : List ℕ) (n i t : ℕ) → i ≡ n → isAlphabet q ≡ true → n ≤ 8 → Gapped q f x y i t → AheadOf q f x y n t

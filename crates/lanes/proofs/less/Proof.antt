@@ -1,15 +1,15 @@
 -- `less` meets its contract: no lane borrows from the next.
 use native.Mathlib.Omega.{arith}
 use borrow.Author.Needs.{needs}
-use Rattle.lanes.proofs.LaneLaws.{few, lift-lt, less-le, mask-lt, less-is}
+use Rattle.lanes.proofs.LaneLaws.{few, symbols-le, mask-lt, less-is}
 use Rattle.lanes.proofs.less.Statement.{statement}
 use Rattle.lanes.proofs.less.Tie as tie
 
 add-result : tie.Need-add-result
-add-result c = record { fits = lift-lt (c .args .q) (c .args .y) (c .args .x) (c .pre .0) (c .fits .y .fits) (c .fits .x .fits) (c .pre .1) (c .pre .2) }
+add-result c = omega (arith, symbols-le (c .args .q) (c .args .y) (c .pre .0) (c .fits .y .fits) (c .pre .1), symbols-le (c .args .q) (c .args .x) (c .pre .0) (c .fits .x .fits) (c .pre .2))
 
 sub-result : tie.Need-sub-result
-sub-result c = less-le (c .args .q) (c .args .y) (c .args .x) (c .pre .0) (c .fits .y .fits) (c .fits .x .fits) (c .pre .1) (c .pre .2)
+sub-result c = omega (arith, symbols-le (c .args .q) (c .args .y) (c .pre .0) (c .fits .y .fits) (c .pre .1), symbols-le (c .args .q) (c .args .x) (c .pre .0) (c .fits .x .fits) (c .pre .2))
 
 sub-result-2 : tie.Need-sub-result-2
 sub-result-2 c = omega (arith, few (c .args .q) (c .args .y) (c .args .x) (c .pre .0) (c .fits .y .fits) (c .fits .x .fits) (c .pre .1) (c .pre .2))

@@ -1,6 +1,6 @@
 -- `load` meets its contract. The loop's invariant: the first j numbers are loaded.
-use Prim.Native.Nat.{_≤_, _-_, _/_}
-use mathlib.Core.Path.{_≡_, refl}
+use Prim.Native.Nat.{_≤_, _-_}
+use mathlib.Core.Path.{_≡_}
 use native.Mathlib.Omega.{arith}
 use lib.ListN.{length}
 use Rattle.lanes.specs.Lane.{Loaded}
@@ -10,13 +10,13 @@ use Rattle.lanes.proofs.load.Statement.{statement}
 use Rattle.lanes.proofs.load.Tie as tie
 
 abbrev Inv-loop : tie.InvT-loop
-Inv-loop word x₀ j₀ j-end x j = (j ≤ j-end) × (j-end ≡ length word / 16) × (length x₀ ≡ 16) × Loaded word x₀ x j
+Inv-loop word x₀ j₀ j-end x j = (j ≤ j-end) × (length x₀ ≡ 16) × Loaded word x₀ x j
 
 abbrev μ-loop : tie.MeasureT-loop
 μ-loop word x₀ j₀ j-end x j = j-end - j
 
 loop-holds : tie.Need-loop-holds Inv-loop μ-loop
-loop-holds c = (omega arith, refl, c .before .pre .2, loaded-none _ _)
+loop-holds c = (omega arith, c .before .pre .2, loaded-none _ _)
 
 sixteen-requires : tie.Need-sixteen-requires Inv-loop μ-loop
 sixteen-requires c κs =
@@ -38,10 +38,10 @@ loop-less c = search needs
 loop-again : tie.Need-loop-again Inv-loop μ-loop
 loop-again c =
     let l = c .before .before .loop in
-    (omega arith, refl, l .inv .2, loaded-next _ _ _ _ _ (l .inv .3) (omega (arith, l .inv .2, l .inv .3 .size, c .before .before .before .before .pre .0)) (c .sixteen .ensures))
+    (omega arith, l .inv .1, loaded-next _ _ _ _ _ (l .inv .2) (omega (arith, l .inv .1, l .inv .2 .size, c .before .before .before .before .pre .0)) (c .sixteen .ensures))
 
 returns : tie.Need-returns Inv-loop μ-loop
-returns c = loaded-all _ _ _ _ (c .before .loop .j) (omega arith) (c .before .loop .inv .3)
+returns c = loaded-all _ _ _ _ (c .before .loop .j) (omega arith) (c .before .loop .inv .2)
 
 pub load-spec : {M : Type 1} → statement M
 load-spec =

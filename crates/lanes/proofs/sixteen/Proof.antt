@@ -1,7 +1,8 @@
 -- `sixteen` meets its contract.
-use Prim.Native.Nat.{_+_, _*_}
+use Prim.Native.Nat.{ℕ, _*_, _<_}
 use native.Mathlib.Omega.{arith}
-use Rattle.lanes.proofs.LoadLaws.{sixteen-lt, sixteen-held}
+use Rattle.digits.specs.Digit.{digit}
+use Rattle.lanes.proofs.LoadLaws.{low-bytes, low-le, sixteen-held}
 use borrow.Author.Needs.{needs}
 use Rattle.lanes.proofs.sixteen.Statement.{statement}
 use Rattle.lanes.proofs.sixteen.Tie as tie
@@ -21,15 +22,20 @@ add-eight c = search needs
 eight-requires-2 : tie.Need-eight-requires-2
 eight-requires-2 c κs = search needs
 
+-- the bytes of both fit a lane
+first : (c : tie.After-eight2) (l : ℕ) → l < 8 → digit 8 (c .before .eight .result) l < 16
+first c = low-bytes (c .before .before .before .args .word .now) _ _ (c .before .eight .ensures) (c .before .before .before .pre .2) (λ l h. omega arith)
+
+second : (c : tie.After-eight2) (l : ℕ) → l < 8 → digit 8 (c .eight2 .result) l < 16
+second c = low-bytes (c .before .before .before .args .word .now) _ _ (c .eight2 .ensures) (c .before .before .before .pre .2) (λ l h. omega arith)
+
 add-result : tie.Need-add-result
-add-result c =
-    let s = c .before .before .before in
-    record { fits = sixteen-lt (s .args .word .now) (16 * s .args .j) (c .before .eight .result) (c .eight2 .result) (omega arith) (omega arith) (c .before .eight .ensures) (c .eight2 .ensures) (λ l h. (s .pre .2 (16 * s .args .j + l) (omega arith), s .pre .2 (16 * s .args .j + 8 + l) (omega arith))) }
+add-result c = omega (arith, low-le (c .before .eight .result) (omega arith) (first c), low-le (c .eight2 .result) (omega arith) (second c))
 
 returns : tie.Need-returns
 returns c =
     let s = c .before .before .before in
-    sixteen-held (s .args .word .now) (16 * s .args .j) (c .before .eight .result) (c .eight2 .result) (omega arith) (omega arith) (c .before .eight .ensures) (c .eight2 .ensures) (λ l h. (s .pre .2 (16 * s .args .j + l) (omega arith), s .pre .2 (16 * s .args .j + 8 + l) (omega arith)))
+    sixteen-held (c .before .eight .result) (c .eight2 .result) (omega arith) (omega arith) (first c) (second c) (s .args .word .now) (16 * s .args .j) (c .before .eight .ensures) (c .eight2 .ensures)
 
 pub sixteen-spec : {M : Type 1} → statement M
 sixteen-spec =

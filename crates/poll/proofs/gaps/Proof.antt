@@ -1,5 +1,5 @@
 -- `gaps` meets its contract. The loop's invariant: t is the sum of the units of the first i numbers.
-use Prim.Native.Nat.{_+_, _-_, _≤_, _<_}
+use Prim.Native.Nat.{_-_, _≤_}
 use native.Mathlib.Omega.{arith}
 use Rattle.lanes.proofs.LaneLaws.{less-below}
 use Rattle.poll.proofs.PollLaws.{Gapped, listed, gaps-none, gaps-next, gaps-all}
@@ -29,17 +29,8 @@ poll-requires c κs =
     let s = c .before .before .before in
     listed (s .args .q) _ _ (s .pre .0) (s .pre .3) (less-below (s .args .q) _ _ _ (s .pre .0) (c .gap .ensures))
 
--- one number more
-next : (c : tie.After-poll Inv-loop μ-loop)
-    → (c .before .before .before .loop .t + c .poll .result < 18446744073709551616)
-    × Gapped (c .before .before .before .before .args .q) (c .before .before .before .before .args .from) (c .before .before .before .before .args .x .now) (c .before .before .before .before .args .y .now) (c .before .before .before .loop .i + 1) (c .before .before .before .loop .t + c .poll .result)
-next c =
-    let s = c .before .before .before .before in
-    let l = c .before .before .before .loop in
-    gaps-next (s .args .q) (s .args .from) (s .args .x .now) (s .args .y .now) (l .i) (l .t) _ _ (omega (arith, s .pre .5)) (l .inv .1) (c .before .gap .ensures) (c .poll .ensures .0) (c .poll .ensures .1)
-
 add-t : tie.Need-add-t Inv-loop μ-loop
-add-t c = record { fits = next c .0 }
+add-t c = omega (arith, c .before .before .before .loop .inv .1 .0, c .poll .ensures .1, c .before .before .before .before .pre .5)
 
 add-i : tie.Need-add-i Inv-loop μ-loop
 add-i c = search needs
@@ -48,7 +39,10 @@ loop-less : tie.Need-loop-less Inv-loop μ-loop
 loop-less c = search needs
 
 loop-again : tie.Need-loop-again Inv-loop μ-loop
-loop-again c = (omega arith, next c .1)
+loop-again c =
+    let s = c .before .before .before .before in
+    let l = c .before .before .before .loop in
+    (omega arith, gaps-next (s .args .q) (s .args .from) (s .args .x .now) (s .args .y .now) (l .i) (l .t) _ _ (l .inv .1) (c .before .gap .ensures) (c .poll .ensures .0) (c .poll .ensures .1))
 
 returns : tie.Need-returns Inv-loop μ-loop
 returns c =

@@ -1,15 +1,15 @@
 -- `pair` meets its contract: the byte is the table's index.
 use native.Mathlib.Omega.{arith}
-use Rattle.poll.proofs.PollLaws.{byte-lt, byte-entry}
+use Rattle.poll.proofs.PollLaws.{byte-fits, byte-lt, byte-entry}
 use borrow.Author.Needs.{needs}
 use Rattle.poll.proofs.pair.Statement.{statement}
 use Rattle.poll.proofs.pair.Tie as tie
 
 mul-result : tie.Need-mul-result
-mul-result c = omega (arith, byte-lt (c .args .d) (c .pre .0) (c .pre .1))
+mul-result c = record { fits = byte-fits (c .args .d) _ (omega arith) }
 
 element-copy-out-result : tie.Need-element-copy-out-result
-element-copy-out-result c = byte-lt (c .args .d) (c .pre .0) (c .pre .1)
+element-copy-out-result c = byte-lt (c .args .d) _ (c .pre .0) (c .pre .1) (omega arith)
 
 returns : tie.Need-returns
 returns c = byte-entry (c .before .args .table .now) (c .before .args .d)

@@ -8,10 +8,10 @@ use Rattle.poll.proofs.pairs.Statement.{statement}
 use Rattle.poll.proofs.pairs.Tie as tie
 
 abbrev Inv-loop : tie.InvT-loop
-Inv-loop q units table₀ b₀ table b = (b ≤ q) × Pairs b table
+Inv-loop q units table₀ b₀ table b = (b ≤ 8) × Pairs b table
 
 abbrev μ-loop : tie.MeasureT-loop
-μ-loop q units table₀ b₀ table b = q - b
+μ-loop q units table₀ b₀ table b = 8 - b
 
 loop-holds : tie.Need-loop-holds Inv-loop μ-loop
 loop-holds c = (omega arith, rows-none _ (c .pre .2))
@@ -25,12 +25,13 @@ add-b : tie.Need-add-b Inv-loop μ-loop
 add-b c = search needs
 
 loop-less : tie.Need-loop-less Inv-loop μ-loop
-loop-less c = search needs
+loop-less c = omega (arith, c .before .before .before .before .pre .1)
 
 loop-again : tie.Need-loop-again Inv-loop μ-loop
 loop-again c =
     let l = c .before .before .before .loop in
-    (omega arith, rows-next _ _ _ (omega (arith, c .before .before .before .before .pre .1)) (l .inv .1) (c .row .ensures))
+    let few = c .before .before .before .before .pre .1 in
+    (omega (arith, few), rows-next _ _ _ (omega (arith, few)) (l .inv .1) (c .row .ensures))
 
 returns : tie.Need-returns Inv-loop μ-loop
 returns c = rows-all (c .before .loop .b) _ _ (omega arith) (c .before .loop .inv .1)

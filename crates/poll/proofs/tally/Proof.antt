@@ -1,8 +1,8 @@
 -- `tally` meets its contract. The loop's invariant: t is the sum of the units of the first j ballots.
-use Prim.Native.Nat.{_+_, _-_, _^_, _≤_, _<_}
+use Prim.Native.Nat.{_-_, _^_, _≤_}
 use mathlib.Core.Path.{_≡_}
 use native.Mathlib.Omega.{arith}
-use Rattle.poll.proofs.PollLaws.{Balloted, ballots-none, reach, listed, ballots-next, ballots-all}
+use Rattle.poll.proofs.PollLaws.{Balloted, few-ballots, ballots-none, reach, listed, ballots-next, ballots-all}
 use borrow.Author.Needs.{needs}
 use Rattle.poll.proofs.tally.Statement.{statement}
 use Rattle.poll.proofs.tally.Tie as tie
@@ -32,17 +32,11 @@ poll-requires c κs =
     let s = c .before .before .before .before in
     listed (s .args .q) _ _ (s .pre .0 .alphabet) (s .pre .1) (c .ballot .ensures .1)
 
--- one ballot more
-next : (c : tie.After-poll Inv-loop μ-loop)
-    → (c .before .before .before .loop .t + c .poll .result < 18446744073709551616)
-    × Balloted (c .before .before .before .before .before .args .q) (c .before .before .before .before .before .args .m) (c .before .before .before .before .before .args .k) (c .before .before .before .before .before .args .x .now) (c .before .before .before .loop .j + 1) (c .before .before .before .loop .t + c .poll .result)
-next c =
+add-t : tie.Need-add-t Inv-loop μ-loop
+add-t c =
     let s = c .before .before .before .before .before in
     let l = c .before .before .before .loop in
-    ballots-next (s .args .q) (s .args .m) (s .args .k) (s .args .x .now) (s .pre .0) (s .pre .2) (l .j) (l .t) _ _ (omega arith) (l .inv .2) (c .before .ballot .ensures .0) (c .poll .ensures .0) (c .poll .ensures .1)
-
-add-t : tie.Need-add-t Inv-loop μ-loop
-add-t c = record { fits = next c .0 }
+    omega (arith, l .inv .1, l .inv .2 .0, few-ballots (s .args .q) (s .args .m) (s .args .k) (s .args .x .now) (s .pre .0) (s .pre .2), c .poll .ensures .1)
 
 add-j : tie.Need-add-j Inv-loop μ-loop
 add-j c = search needs
@@ -51,7 +45,10 @@ loop-less : tie.Need-loop-less Inv-loop μ-loop
 loop-less c = search needs
 
 loop-again : tie.Need-loop-again Inv-loop μ-loop
-loop-again c = (omega arith, c .before .before .before .loop .inv .1, next c .1)
+loop-again c =
+    let s = c .before .before .before .before .before in
+    let l = c .before .before .before .loop in
+    (omega arith, l .inv .1, ballots-next (s .args .q) (s .args .m) (s .args .k) (s .args .x .now) (s .pre .0) (s .pre .2) (l .j) (l .t) _ _ (omega arith) (l .inv .2) (c .before .ballot .ensures .0) (c .poll .ensures .0) (c .poll .ensures .1))
 
 returns : tie.Need-returns Inv-loop μ-loop
 returns c =

@@ -7,13 +7,13 @@ use Rattle.questions.proofs.top_below.Statement.{statement}
 use Rattle.questions.proofs.top_below.Tie as tie
 
 abbrev Inv-loop : tie.InvT-loop
-Inv-loop q s i n top₀ j₀ top j = (j ≤ n) × Top s i j top
+Inv-loop q s i n top₀ j₀ top j = Top s i j top × (j ≤ n)
 
 abbrev μ-loop : tie.MeasureT-loop
 μ-loop q s i n top₀ j₀ top j = n - j
 
 loop-holds : tie.Need-loop-holds Inv-loop μ-loop
-loop-holds c = (omega arith, top-none _ _)
+loop-holds c = (top-none _ _, omega arith)
 
 add-larger : tie.Need-add-larger Inv-loop μ-loop
 add-larger c = search needs
@@ -33,7 +33,7 @@ loop-less c = search needs
 loop-again : tie.Need-loop-again Inv-loop μ-loop
 loop-again c =
     let l = c .before .before .before in
-    (omega arith, top-next _ _ (l .loop .j) (l .loop .top) _ (l .loop .inv .1) (c .larger .ensures))
+    (top-next _ _ (l .loop .j) (l .loop .top) _ (l .loop .inv .0) (c .larger .ensures), omega arith)
 
 wide-requires : tie.Need-wide-requires Inv-loop μ-loop
 wide-requires c κs = search needs
@@ -42,7 +42,7 @@ returns : tie.Need-returns Inv-loop μ-loop
 returns c =
     let l = c .before .before in
     let s = l .before .before in
-    top-tells (s .args .q) (s .args .s .now) (s .args .i) (l .loop .j) (s .args .n) (l .loop .top) (c .wide .result) (s .pre .0) (omega arith) (c .wide .ensures) (l .loop .inv .1)
+    top-tells (s .args .q) (s .args .s .now) (s .args .i) (l .loop .j) (s .args .n) (l .loop .top) (c .wide .result) (s .pre .0) (omega arith) (c .wide .ensures) (l .loop .inv .0)
 
 pub top-below-spec : {M : Type 1} → statement M
 top-below-spec =

@@ -17,10 +17,10 @@ enum-known-reading c = search needs
 
 add-result : tie.Need-add-result
 add-result c =
-    let s = c .before .before .before .before .before .before .before .before .before .before in
     let d = c .before .before .before .before .before .before .decode in
     let n = c .before .before .reading .given in
-    omega (arith, decode-small (s .args .q) (s .args .m) (s .args .message .now) (s .args .word .now) (d .result) (d .ensures .0) (n .0 .0) (n .1))
+    let small = decode-small _ _ _ _ (d .result) (d .ensures .0) (n .0 .0) (n .1) in
+    omega (arith, small .0, small .1)
 
 enum-known-number : tie.Need-enum-known-number
 enum-known-number c = search needs
