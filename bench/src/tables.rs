@@ -53,9 +53,10 @@ fn sweep<R, const C: usize>(name: &str, rows: &[R], passes: impl Fn(&R) -> [Pass
     best
 }
 
-/// Where the times of a table are kept: in the folder that BENCH_TIMES names.
+/// Where the times of a table are kept: in the folder that BENCH_TIMES names, if it names one.
 fn file(name: &str) -> Option<PathBuf> {
-    env::var_os("BENCH_TIMES").map(|folder| Path::new(&folder).join(name))
+    let folder = env::var_os("BENCH_TIMES").filter(|folder| !folder.is_empty())?;
+    Some(Path::new(&folder).join(name))
 }
 
 /// The times that an earlier build kept.

@@ -3,7 +3,7 @@
 // word, it is this one.
 ghost use mathlib.Core.Path.{_≡_};
 ghost use mathlib.Core.Bool.{true};
-ghost use Prim.Native.Nat.{ℕ, _%_, _^_, _<_};
+ghost use Prim.Native.Nat.{_%_, _^_, _<_};
 ghost use Rattle.theory.specs.Question.{isAlphabet};
 ghost use Rattle.lanes.specs.Lane.{Below};
 ghost use Rattle.lanes.specs.Ballot.{laneBit};

@@ -2,7 +2,7 @@
 // 16 j + offset t of the word. The numbers of a long word stand in a lent array of sixteen.
 ghost use mathlib.Core.Path.{_≡_};
 ghost use mathlib.Core.Bool.{true};
-ghost use Prim.Native.Nat.{ℕ, _+_, _*_, _/_, _^_, _<_, _≤_};
+ghost use Prim.Native.Nat.{_+_, _*_, _/_, _^_, _<_, _≤_};
 ghost use lib.ListN.{length};
 ghost use Rattle.theory.specs.Sum.{at};
 ghost use Rattle.theory.specs.Modular.{subMod};

@@ -1,13 +1,13 @@
 -- Sums of units over lanes, and the tallies that they are. Assumes nothing.
-use Prim.Native.Nat.{ℕ, zero, suc, _+_, _*_, _-_, _/_, _%_, _^_, _≤_, _<_}
+use Prim.Native.Nat.{ℕ, suc, _+_, _*_, _-_, _/_, _%_, _^_, _≤_, _<_}
 use mathlib.Core.Path.{_≡_, refl, ap, ap₂, sym, _∙_}
 use mathlib.Core.List.{List}
 use native.Mathlib.Omega.{arith}
-use native.Mathlib.Nat.{div-one, pow-le-pow-right, le-of-suc-le-suc, mul-comm, mul-add, add-assoc}
+use native.Mathlib.Nat.{div-one, pow-le-pow-right, le-of-suc-le-suc, add-assoc}
 use lib.Bits.{bitAnd, and-mask, and-mod, and-le-l, and-le-r}
 use lib.Pow.{shr-shr, pow-mono}
 use Rattle.theory.specs.Sum.{sum, at}
-use Rattle.theory.specs.Index.{bit, ifClear}
+use Rattle.theory.specs.Index.{ifClear}
 use Rattle.theory.specs.Modular.{subMod, same}
 use Rattle.theory.specs.Vote.{count, vote, votes}
 use Rattle.theory.specs.Question.{isAlphabet}
@@ -18,7 +18,7 @@ use Rattle.theory.proofs.ModularLaws.{subMod-lt}
 use Rattle.theory.proofs.QuestionLaws.{alphabet, alphabet-bounds}
 use Rattle.digits.specs.Digit as digits
 use Rattle.digits.proofs.DigitLaws.{digit-even, digit-odd, digit-down}
-use Rattle.tally.specs.Digits.{digit, Counts}
+use Rattle.tally.specs.Digits.{digit}
 use Rattle.tally.proofs.DigitLaws.{units-digit}
 use Rattle.lanes.specs.Lane.{offset, Lanes, Below, Packed}
 use Rattle.lanes.specs.Ballot.{spot, Reach, BallotOf}

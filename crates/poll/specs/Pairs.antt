@@ -12,7 +12,7 @@ pub record Pairs (q : ℕ) (u : List ℕ) : Type 0 where
   pub size : length u ≡ 128
   pub each : (a b : ℕ) → a < 8 → b < q → at u (a + 16 * b) ≡ 256 ^ a + 256 ^ b
 
--- the first n entries of row b are filled, and all others are as in u
+-- the first n entries of row b are filled, and the rows before it are as in u
 pub record Row (b : ℕ) (u v : List ℕ) (n : ℕ) : Type 0 where
   pub size : length v ≡ 128
   pub each : (a : ℕ) → a < n → at v (a + 16 * b) ≡ 256 ^ a + 256 ^ b

@@ -89,8 +89,8 @@ fn no_sums() -> [Sums; 8]
     [none; 8]
 }
 
-// Two: below coefficient 2 no four places on end stand at four indices on end. The test is one that the compiler cannot settle, or it makes
-// a body for each of the two, and long words take up to a twentieth longer.
+// Two, the first coefficient that has a row. A test says so that the compiler cannot settle, since code made for just two coefficients is
+// slower: docs/DECISIONS.md.
 fn low_end(m: u32) -> u32
     requires { ⌜ 2 ≤ m ⌝ }
     ensures { λ r. ⌜ r ≡ 2 ⌝ }

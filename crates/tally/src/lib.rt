@@ -1,7 +1,7 @@
-// A received word and the tallies of its votes. A tally is eight counters of eight bits in one number: a vote adds the unit of its value.
-// Eight bits hold the 128 votes for a coefficient, and half of the 256 for the constant.
+// The places at which votes are cast. In specs: a received word and the tallies of its votes. A tally is eight counters of eight bits in one
+// number: a vote adds the unit of its value. Eight bits hold the 128 votes for a coefficient, and half of the 256 for the constant.
 ghost use mathlib.Core.Path.{_≡_};
-ghost use Prim.Native.Nat.{ℕ, _<_};
+ghost use Prim.Native.Nat.{_<_};
 ghost use Rattle.theory.proofs.IndexLaws.{nthClear};
 
 // The j-th place whose bit k is 0: j with a 0 put in at bit k. The mask picks the bits below k, which stay where they are; the others move

@@ -102,7 +102,7 @@ module _ (found : List ℕ) (c : Coefficients 2 found) where
   pub both-below : (at found 1 < 4) × (at found 2 < 4)
   both-below = (c .below 0 (omega arith), c .below 1 (omega arith))
 
-  -- their quarter turns: none, a_0, a_1, and both
+  -- their quarter turns: none, a_0, a_1 and a_0 + a_1
   four-turns : (0 ≡ linear 2 (coefficientsIn found) 0 % 4) × (at found 1 ≡ linear 2 (coefficientsIn found) 1 % 4) × (at found 2 ≡ linear 2 (coefficientsIn found) 2 % 4)
       × (bitAnd (at found 1 + at found 2) 3 ≡ linear 2 (coefficientsIn found) 3 % 4)
   unfolding linear sum bit coefficientsIn

@@ -62,7 +62,7 @@ pub fn constant_sums(m: u32, found: &[u8], turns: &[u8], re: &[f32], im: &[f32])
     all
 }
 
-// The same sums of four samples, with no loop and no word: the coefficients ask for no turn, a_0, a_1, and both.
+// The same sums of four samples, one by one: their quarter turns are none, a_0, a_1 and a_0 + a_1.
 pub fn four_sums(found: &[u8], re: &[f32], im: &[f32]) -> Sums
     requires { ⌜ Samples 2 (now re) (now im) × Coefficients 2 (now found) ⌝ }
     ensures { λ r. ⌜ pair r ≡ constantSums f32 2 (coefficientsIn (now (found .entry))) (sample f32 (now (re .entry)) (now (im .entry))) ⌝ }

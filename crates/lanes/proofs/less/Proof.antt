@@ -1,6 +1,5 @@
 -- `less` meets its contract: no lane borrows from the next.
 use native.Mathlib.Omega.{arith}
-use borrow.Author.Needs.{needs}
 use Rattle.lanes.proofs.LaneLaws.{few, symbols-le, mask-lt, less-is}
 use Rattle.lanes.proofs.less.Statement.{statement}
 use Rattle.lanes.proofs.less.Tie as tie

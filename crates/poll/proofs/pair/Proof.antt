@@ -1,7 +1,6 @@
 -- `pair` meets its contract: the byte is the table's index.
 use native.Mathlib.Omega.{arith}
 use Rattle.poll.proofs.PollLaws.{byte-fits, byte-lt, byte-entry}
-use borrow.Author.Needs.{needs}
 use Rattle.poll.proofs.pair.Statement.{statement}
 use Rattle.poll.proofs.pair.Tie as tie
 

@@ -1,6 +1,6 @@
 -- `rm_read` meets its contract: the number for each answer of decode.
 use Prim.Native.Nat.{_+_}
-use mathlib.Core.Path.{_≡_, sym, _∙_, ap}
+use mathlib.Core.Path.{sym, _∙_, ap}
 use native.Mathlib.Omega.{arith}
 use borrow.Author.Needs.{needs}
 use Rattle.theory.proofs.QuestionLaws.{after-yes, after-no}
