@@ -89,8 +89,8 @@ fn no_sums() -> [Sums; 8]
     [none; 8]
 }
 
-// Two, the first coefficient that has a row. A test says so that the compiler cannot settle, since code made for just two coefficients is
-// slower: docs/DECISIONS.md.
+// 2, the first coefficient that has a row, by a test that the compiler cannot settle: code made for just two coefficients is slower
+// (docs/DECISIONS.md).
 fn low_end(m: u32) -> u32
     requires { ⌜ 2 ≤ m ⌝ }
     ensures { λ r. ⌜ r ≡ 2 ⌝ }

@@ -21,7 +21,7 @@ use Rattle.samples.proofs.SumsLaws.{sums-none, sums-next, backTo, back-all}
 use Rattle.sums.proofs.Steps.{zero-bits}
 use Rattle.sums.specs.Pair.{complex}
 use Rattle.sums.specs.Work.{Samples}
-use Rattle.turns.specs.Work.{Coefficients, coefficientsIn, Turns, TurnsWritten}
+use Rattle.turns.specs.Work.{Coefficients, coefficientsIn, Turns}
 
 -- ---- the turns are a word
 pub turns-fit : (q m : ℕ) (found t : List ℕ) → isAlphabet q ≡ true → 4 ≤ q → 2 ≤ m → m ≤ 8 → Coefficients m found → length t ≡ 256 → Fits q m found t
@@ -38,14 +38,11 @@ turns-fit q m found t a b l h c e = record {
     below zero i = omega (arith, c .zeroth)
     below (suc k) i = omega (arith, c .below k (le-of-suc-le-suc i))
 
-pub turns-written : (m : ℕ) (found t u : List ℕ) → Coefficients m found → length t ≡ 256 → Written 4 m found t u → TurnsWritten m found t u
+pub turns-written : (m : ℕ) (found t u : List ℕ) → Coefficients m found → length t ≡ 256 → Written 4 m found t u → Turns m found u
 unfolding symbolAt coefficientsIn
 turns-written m found t u c e d = record {
-  turns = record {
-    size = d .size ∙ e;
-    each = λ i l. d .coded .each i l ∙ ap (λ x. (x + linear m (λ k. at found (suc k)) i) % 4) (c .zeroth) ∙ ap (λ x. x % 4) (zero-add _);
-  };
-  rest = d .rest;
+  size = d .size ∙ e;
+  each = λ i l. d .coded .each i l ∙ ap (λ x. (x + linear m (λ k. at found (suc k)) i) % 4) (c .zeroth) ∙ ap (λ x. x % 4) (zero-add _);
 }
 
 pub turns-below : (k : ℕ) (found t : List ℕ) → Turns k found t → (i : ℕ) → i < 2 ^ k → at t i < 4

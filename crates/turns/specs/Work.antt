@@ -1,6 +1,6 @@
 -- The coefficients that were found, and the quarter turns that they ask for. No public contract of document 01 speaks of it.
 use mathlib.Core.Path.{_≡_}
-use Prim.Native.Nat.{ℕ, suc, _%_, _^_, _≤_, _<_}
+use Prim.Native.Nat.{ℕ, suc, _%_, _^_, _<_}
 use mathlib.Core.List.{List}
 use lib.ListN.{length}
 use Rattle.theory.specs.Sum.{at}
@@ -20,8 +20,3 @@ pub record Coefficients (m : ℕ) (found : List ℕ) : Type 0 where
 pub record Turns (k : ℕ) (found turns : List ℕ) : Type 0 where
   pub size : length turns ≡ 256
   pub each : (i : ℕ) → i < 2 ^ k → at turns i ≡ linear k (coefficientsIn found) i % 4
-
--- v is w with the quarter turns that found asks for in its first 2 ^ m places, and the others kept
-pub record TurnsWritten (m : ℕ) (found w v : List ℕ) : Type 0 where
-  pub turns : Turns m found v
-  pub rest : (i : ℕ) → 2 ^ m ≤ i → at v i ≡ at w i

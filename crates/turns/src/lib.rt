@@ -4,17 +4,18 @@ ghost use mathlib.Core.Path.{_≡_};
 ghost use Prim.Native.Nat.{_<_, _≤_};
 ghost use lib.ListN.{length};
 ghost use Rattle.theory.specs.Sum.{at};
+ghost use Rattle.codeword.specs.Coded.{Written};
 ghost use Rattle.samples.specs.Numbers.{f32};
 ghost use Rattle.samples.specs.Complex.{sample, turnBack};
 ghost use Rattle.samples.specs.Soft.{constantSums};
 ghost use Rattle.sums.specs.Pair.{pair, complex};
 ghost use Rattle.sums.specs.Work.{Samples};
-ghost use Rattle.turns.specs.Work.{Coefficients, coefficientsIn, Turns, TurnsWritten};
+ghost use Rattle.turns.specs.Work.{Coefficients, coefficientsIn, Turns};
 
 // The quarter turns that the coefficients in found ask for at each index: the word of found, whose constant is 0. The other places stay.
 pub fn quarter_turns(m: u32, found: &[u8], turns: &mut [u8])
     requires { ⌜ (2 ≤ m) × (m ≤ 8) × Coefficients m (now found) × (length (now turns) ≡ 256) ⌝ }
-    ensures { λ _. ⌜ TurnsWritten m (now (found .entry)) (now (turns .entry)) (now (turns .exit)) ⌝ }
+    ensures { λ _. ⌜ Written 4 m (now (found .entry)) (now (turns .entry)) (now (turns .exit)) × Turns m (now (found .entry)) (now (turns .exit)) ⌝ }
 {
     codeword::write(4, m, found, turns);
 }

@@ -19,7 +19,7 @@ same-length c = search needs
 returns : tie.Need-returns
 returns c =
     let s = c .before .before .before .before .before .before in
-    turns-written _ _ (s .args .turns .now) _ (s .pre .2) (s .pre .3) (c .before .before .write .ensures)
+    (c .before .before .write .ensures, turns-written _ _ (s .args .turns .now) _ (s .pre .2) (s .pre .3) (c .before .before .write .ensures))
 
 pub quarter-turns-spec : {M : Type 1} → statement M
 quarter-turns-spec = tie.close (tie.spec write-requires same-length returns)
