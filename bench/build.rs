@@ -7,7 +7,7 @@ fn main() {
     let package = PathBuf::from(env::var_os("CARGO_MANIFEST_DIR").expect("set by cargo"));
     let folder = package.join("../target/staticlib");
     println!("cargo:rustc-link-search=native={}", folder.display());
-    for name in ["compare_c", "rm_c", "compare_session_c", "compare_soft_c"] {
+    for name in ["compare_codec", "rm_c", "compare_session", "compare_soft"] {
         println!("cargo:rerun-if-changed={}", folder.join(format!("lib{name}.a")).display());
         println!("cargo:rustc-link-lib=static={name}");
     }

@@ -7,10 +7,10 @@ use mathlib.Core.List.{List, []}
 use native.Mathlib.Decide.{ℕ-discrete}
 use native.Mathlib.Omega.{arith}
 use lib.ListN.{length}
-use Rattle.theory.specs.Nearest.{isReadable}
-use Rattle.theory.specs.Question.{ask, isAlphabet, isOrder, isMessageSize, isWordSize, allBelow, accepted, refused}
-use Rattle.theory.proofs.QuestionLaws.{ask-yes, ask-never, ask-later, alphabet, alphabet-bounds, order-bounds, message-size, word-size, symbols, answer-yes, answer-no}
-use Rattle.tally.specs.Received.{Received}
+use Rattle.code_theory.specs.Nearest.{isReadable}
+use Rattle.code_theory.specs.Question.{ask, isAlphabet, isOrder, isMessageSize, isWordSize, allBelow, accepted, refused}
+use Rattle.code_theory.proofs.QuestionLaws.{ask-yes, ask-never, ask-later, alphabet, alphabet-bounds, order-bounds, message-size, word-size, symbols, answer-yes, answer-no}
+use Rattle.decode_long_counters.specs.Received.{Received}
 use Rattle.codec.specs.Codec.{encodeRefusal, encodeAnswer, decodeRefusal}
 use Rattle.codec.specs.Asked.{sizeRefusal, wordRefusal}
 

@@ -5,14 +5,14 @@ use mathlib.Core.Logic.{_≢_}
 use mathlib.Core.List.{List}
 use native.Mathlib.Omega.{arith}
 use lib.Pow.{pow-mono}
-use Rattle.theory.specs.Sum.{at}
-use Rattle.theory.specs.Vote.{tally}
-use Rattle.theory.specs.Margin.{lead, margin}
-use Rattle.theory.specs.Nearest.{nearMessage, nearDistance, nearMargin}
-use Rattle.theory.proofs.CodeLaws.{distance-le}
-use Rattle.theory.proofs.MarginLaws.{least-le}
-use Rattle.theory.proofs.ErrorLaws.{votes-le-half}
-use Rattle.theory.proofs.QuestionLaws.{answer-accepted, answer-refused}
+use Rattle.code_theory.specs.Sum.{at}
+use Rattle.code_theory.specs.Vote.{tally}
+use Rattle.code_theory.specs.Margin.{lead, margin}
+use Rattle.code_theory.specs.Nearest.{nearMessage, nearDistance, nearMargin}
+use Rattle.code_theory.proofs.CodeLaws.{distance-le}
+use Rattle.code_theory.proofs.MarginLaws.{least-le}
+use Rattle.code_theory.proofs.ErrorLaws.{votes-le-half}
+use Rattle.code_theory.proofs.QuestionLaws.{answer-accepted, answer-refused}
 use Rattle.codec.specs.Codec.{encodeRefusal, encodeAnswer, encoded, decodeRefusal, decodeAnswer, decoded}
 use Rattle.codec.specs.declared.Reading.{Reading}
 use Rattle.codec.specs.declared.Encoded.{Encoded}

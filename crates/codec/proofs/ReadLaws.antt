@@ -5,9 +5,9 @@ use mathlib.Core.Logic.{_≢_}
 use mathlib.Core.Bool.{true, false}
 use mathlib.Core.List.{List, [], _∷_}
 use native.Mathlib.Omega.{arith}
-use Rattle.theory.specs.Nearest.{isReadable, nearMessage, nearDistance, nearMargin}
-use Rattle.theory.specs.Question.{accepted, refused}
-use Rattle.theory.proofs.QuestionLaws.{ask-on, ask-no, answer-yes, answer-no, after-yes, after-no}
+use Rattle.code_theory.specs.Nearest.{isReadable, nearMessage, nearDistance, nearMargin}
+use Rattle.code_theory.specs.Question.{accepted, refused}
+use Rattle.code_theory.proofs.QuestionLaws.{ask-on, ask-no, answer-yes, answer-no, after-yes, after-no}
 use Rattle.codec.specs.Codec.{decodeRefusal, decodeAnswer, decodeMessage}
 use Rattle.codec.specs.Asked.{wordRefusal}
 use Rattle.codec.proofs.Accepted.{decode-never, decode-later}

@@ -1,7 +1,7 @@
 -- The part of the questions of Read that two helpers of the code ask; decodeRefusal of Codec.antt has them all.
 use Prim.Native.Nat.{ℕ}
 use mathlib.Core.List.{List}
-use Rattle.theory.specs.Question.{ask, isAlphabet, isOrder, isMessageSize, isWordSize, allBelow}
+use Rattle.code_theory.specs.Question.{ask, isAlphabet, isOrder, isMessageSize, isWordSize, allBelow}
 
 -- 1, 2, 5
 unfoldable pub sizeRefusal : ℕ → ℕ → List ℕ → ℕ

@@ -1,15 +1,15 @@
 -- What encode and decode answer and leave, for every input (document 01: Write and Read).
 use Prim.Native.Nat.{ℕ}
 use mathlib.Core.List.{List, [], _∷_}
-use Rattle.theory.specs.Nearest.{isReadable, nearMessage, nearDistance, nearMargin}
-use Rattle.theory.specs.Question.{ask, isAlphabet, isOrder, isMessageSize, isWordSize, allBelow, Answer, accepted, refused, answer, after}
+use Rattle.code_theory.specs.Nearest.{isReadable, nearMessage, nearDistance, nearMargin}
+use Rattle.code_theory.specs.Question.{ask, isAlphabet, isOrder, isMessageSize, isWordSize, allBelow, Answer, accepted, refused, answer, after}
 use Rattle.codec.specs.declared.Reading.{Reading}
 use Rattle.codec.specs.declared.Encoded.{Encoded}
 use Rattle.codec.specs.declared.Encoded.the-variants as E
 use Rattle.codec.specs.declared.Decoded.{Decoded}
 use Rattle.codec.specs.declared.Decoded.the-variants as D
 -- the questions of Write, and the word slice after it
-unfoldable pub use Rattle.encoder.specs.Encoder.{encodeRefusal, encodeWord}
+unfoldable pub use Rattle.encode_by_length.specs.Encoder.{encodeRefusal, encodeWord}
 
 -- Write answers no values
 unfoldable pub encodeAnswer : ℕ → ℕ → List ℕ → List ℕ → Answer

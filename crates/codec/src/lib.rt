@@ -26,7 +26,7 @@ pub fn encode(q: u32, m: u32, message: &[u8], word: &mut [u8]) -> Encoded
     ensures answer { λ r. ⌜ encoded r ≡ encodeAnswer q m (now (message .entry)) (now (word .entry)) ⌝ }
     ensures buffer { λ r. ⌜ now (word .exit) ≡ encodeWord q m (now (message .entry)) (now (word .entry)) ⌝ }
 {
-    let number = encoder::write_any(q, m, message, word);
+    let number = encode_by_length::write_any(q, m, message, word);
     if number != 0 {
         return Encoded::Refused(number);
     }
@@ -37,10 +37,10 @@ pub fn encode(q: u32, m: u32, message: &[u8], word: &mut [u8]) -> Encoded
 fn size_refusal(q: u32, m: u32, message: &[u8]) -> u32
     ensures { λ r. ⌜ r ≡ sizeRefusal q m (now (message .entry)) ⌝ }
 {
-    if !questions::is_alphabet(q) {
+    if !code_questions::is_alphabet(q) {
         return 1;
     }
-    if !questions::is_order(m) {
+    if !code_questions::is_order(m) {
         return 2;
     }
     if message.len() != m as usize + 1 {
@@ -57,10 +57,10 @@ fn word_refusal(q: u32, m: u32, message: &[u8], word: &[u8]) -> u32
     if number != 0 {
         return number;
     }
-    if word.len() != questions::pow2(m) {
+    if word.len() != code_questions::pow2(m) {
         return 7;
     }
-    if !questions::word_below(q, m, word) {
+    if !code_questions::word_below(q, m, word) {
         return 8;
     }
     0
@@ -75,7 +75,7 @@ pub fn decode(q: u32, m: u32, message: &mut [u8], word: &[u8]) -> Decoded
     if number != 0 {
         return Decoded::Refused(number);
     }
-    let r = majority::read(q, m, message, word);
+    let r = decode_by_length::read(q, m, message, word);
     if 4 * r.wrong >= word.len() as u32 {
         return Decoded::Refused(9);
     }

@@ -1,8 +1,8 @@
 -- The numbers of the C form: the refusal, or 100 for a word written and 100 + wrong for a word read.
 use Prim.Native.Nat.{ℕ, _+_}
 use mathlib.Core.List.{List}
-use Rattle.theory.specs.Question.{after}
-use Rattle.theory.specs.Nearest.{nearDistance}
+use Rattle.code_theory.specs.Question.{after}
+use Rattle.code_theory.specs.Nearest.{nearDistance}
 use Rattle.codec.specs.Codec.{encodeRefusal, decodeRefusal}
 
 -- the number for a call whose questions give n, and v where they all have a yes

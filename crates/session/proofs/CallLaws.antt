@@ -8,12 +8,12 @@ use mathlib.Core.Option.{none, some}
 use native.Mathlib.Omega.{arith}
 use lib.Dec.{eqb, ltb}
 use lib.ListN.{set}
-use Rattle.theory.specs.Code.{codeword}
-use Rattle.theory.specs.Nearest.{isReadable, nearMessage}
-use Rattle.theory.specs.Question.{ask, accepted, refused, after}
-use Rattle.theory.proofs.QuestionLaws.{ask-yes, ask-on, ask-later, ask-never, answer-yes, answer-no, after-yes, after-no, word-size}
-use Rattle.theory.proofs.NearestLaws.{found-near}
-use Rattle.slots.specs.Step.{Sendable}
+use Rattle.code_theory.specs.Code.{codeword}
+use Rattle.code_theory.specs.Nearest.{isReadable, nearMessage}
+use Rattle.code_theory.specs.Question.{ask, accepted, refused, after}
+use Rattle.code_theory.proofs.QuestionLaws.{ask-yes, ask-on, ask-later, ask-never, answer-yes, answer-no, after-yes, after-no, word-size}
+use Rattle.code_theory.proofs.NearestLaws.{found-near}
+use Rattle.session_steps.specs.Step.{Sendable}
 use Rattle.codec.specs.declared.Reading.{Reading}
 use Rattle.codec.specs.declared.Decoded.{Decoded}
 use Rattle.codec.specs.declared.Decoded.the-variants as D

@@ -8,12 +8,12 @@ use native.Mathlib.Nat.{mod-lt}
 use native.Mathlib.Omega.{arith}
 use lib.Dec.{eqb, ltb}
 use borrow.Author.Tests.{leb-true, ltb-true, le-leb, lt-ltb}
-use Rattle.theory.specs.Sum.{at}
-use Rattle.theory.specs.Code.{Symbols}
-use Rattle.theory.specs.Nearest.{nearest, isReadable, nearMessage}
-use Rattle.theory.specs.Question.{ask, after, isAlphabet, isOrder}
-use Rattle.theory.proofs.QuestionLaws.{and-true, ask-yes, alphabet-positive, message-size, symbols}
-use Rattle.theory.proofs.NearestLaws.{found-near}
+use Rattle.code_theory.specs.Sum.{at}
+use Rattle.code_theory.specs.Code.{Symbols}
+use Rattle.code_theory.specs.Nearest.{nearest, isReadable, nearMessage}
+use Rattle.code_theory.specs.Question.{ask, after, isAlphabet, isOrder}
+use Rattle.code_theory.proofs.QuestionLaws.{and-true, ask-yes, alphabet-positive, message-size, symbols}
+use Rattle.code_theory.proofs.NearestLaws.{found-near}
 use Rattle.session.specs.declared.Sender.{Sender}
 use Rattle.session.specs.declared.Receiver.{Receiver}
 use Rattle.session.specs.declared.Reference.{Reference}

@@ -8,9 +8,9 @@ use native.Mathlib.Nat.{mod-lt}
 use lib.Dec.{eqb}
 use lib.ListN.{set}
 use borrow.Author.Tests.{eq-eqb, ne-eqb}
-use Rattle.theory.specs.Sum.{at}
-use Rattle.theory.specs.Question.{isAlphabet, refused}
-use Rattle.theory.proofs.QuestionLaws.{alphabet-positive}
+use Rattle.code_theory.specs.Sum.{at}
+use Rattle.code_theory.specs.Question.{isAlphabet, refused}
+use Rattle.code_theory.proofs.QuestionLaws.{alphabet-positive}
 use Rattle.session.specs.declared.Zone.{Zone}
 use Rattle.session.specs.declared.Receiver.{Receiver}
 use Rattle.session.specs.declared.Reference.the-variants.{Held, Missing}

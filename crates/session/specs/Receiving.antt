@@ -5,10 +5,10 @@ use mathlib.Core.List.{List, [], _∷_, _++_}
 use mathlib.Core.Option.{Option, none, some}
 use lib.Dec.{eqb, leb, ltb}
 use lib.ListN.{set}
-use Rattle.theory.specs.Sum.{at}
-use Rattle.theory.specs.Modular.{subMod}
-use Rattle.theory.specs.Nearest.{isReadable, nearMessage, nearDistance, nearMargin}
-use Rattle.theory.specs.Question.{ask, isAlphabet, isOrder, isMessageSize, isWordSize, allBelow, Answer, accepted, refused, answer, after}
+use Rattle.code_theory.specs.Sum.{at}
+use Rattle.code_theory.specs.Modular.{subMod}
+use Rattle.code_theory.specs.Nearest.{isReadable, nearMessage, nearDistance, nearMargin}
+use Rattle.code_theory.specs.Question.{ask, isAlphabet, isOrder, isMessageSize, isWordSize, allBelow, Answer, accepted, refused, answer, after}
 use Rattle.session.specs.Slot.{slots, slotTime, openRefusal}
 use Rattle.session.specs.declared.Reference.{Reference}
 use Rattle.session.specs.declared.Reference.the-variants.{Held, Missing}

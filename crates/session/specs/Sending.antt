@@ -5,9 +5,9 @@ use mathlib.Core.List.{List, []}
 use mathlib.Core.Option.{Option, none, some}
 use lib.Dec.{eqb, leb, ltb}
 use lib.ListN.{set}
-use Rattle.theory.specs.Sum.{at}
-use Rattle.theory.specs.Code.{codeword}
-use Rattle.theory.specs.Question.{ask, isAlphabet, isOrder, isMessageSize, isWordSize, allBelow, Answer, accepted, refused, answer, after}
+use Rattle.code_theory.specs.Sum.{at}
+use Rattle.code_theory.specs.Code.{codeword}
+use Rattle.code_theory.specs.Question.{ask, isAlphabet, isOrder, isMessageSize, isWordSize, allBelow, Answer, accepted, refused, answer, after}
 use Rattle.session.specs.Slot.{slots, openRefusal}
 use Rattle.session.specs.declared.Sender.{Sender}
 use Rattle.session.specs.declared.SenderOpened.{SenderOpened}

@@ -1,9 +1,9 @@
 -- The limits of a session, and its opening.
 use Prim.Native.Nat.{ℕ, _*_}
 use mathlib.Core.List.{[]}
-use Rattle.theory.specs.Question.{Answer, answer}
+use Rattle.code_theory.specs.Question.{Answer, answer}
 -- the questions of Open
-unfoldable pub use Rattle.slots.specs.Opening.{openRefusal}
+unfoldable pub use Rattle.session_steps.specs.Opening.{openRefusal}
 
 -- how many slots a session has at most
 abbrev pub slots : ℕ

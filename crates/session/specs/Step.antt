@@ -4,8 +4,8 @@ use mathlib.Core.Path.{_≡_}
 use mathlib.Core.Bool.{true}
 use mathlib.Core.List.{List}
 use lib.ListN.{length, set}
-use Rattle.theory.specs.Sum.{at}
-use Rattle.theory.specs.Question.{isAlphabet}
+use Rattle.code_theory.specs.Sum.{at}
+use Rattle.code_theory.specs.Question.{isAlphabet}
 use Rattle.session.specs.Slot.{slots}
 use Rattle.session.specs.Receiving.{isBelow, zoneSymbol, delivery, nextReceiver}
 use Rattle.session.specs.declared.Receiver.{Receiver}

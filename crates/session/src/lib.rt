@@ -3,7 +3,7 @@ ghost use mathlib.Core.Path.{_≡_};
 ghost use mathlib.Core.Bool.{true, cond};
 ghost use lib.Dec.{eqb};
 ghost use Prim.Native.Nat.{_<_};
-ghost use Rattle.theory.specs.Question.{isAlphabet, refused};
+ghost use Rattle.code_theory.specs.Question.{isAlphabet, refused};
 ghost use Rattle.session.specs.Slot.{slots, slotTime, openAnswer};
 ghost use Rattle.session.specs.Step.{Deliverable, Delivers};
 ghost use Rattle.session.specs.Sending.{openSender, soundSender, sendRefusal, sendAnswer, sendSession, sendWord, senderOpened, openedSender, sent, sentSession};
@@ -94,7 +94,7 @@ impl Sender {
         ensures answer { λ r. ⌜ senderOpened r ≡ openAnswer q m ⌝ }
         ensures session { λ r. ⌜ openedSender r ≡ openSender q m ⌝ }
     {
-        let number = slots::open_refusal(q, m);
+        let number = session_steps::open_refusal(q, m);
         if number != 0 {
             return SenderOpened::Refused(number);
         }
@@ -110,8 +110,8 @@ impl Sender {
     fn is_sound(self) -> bool
         ensures { λ r. ⌜ r ≡ soundSender self ⌝ }
     {
-        questions::is_alphabet(self.q)
-            && (questions::is_order(self.m)
+        code_questions::is_alphabet(self.q)
+            && (code_questions::is_order(self.m)
                 && ((self.last as u32) < self.q
                     && (self.used <= Sender::SLOTS && (0 < self.used || self.last == 0))))
     }
@@ -129,10 +129,10 @@ impl Sender {
         if message.len() != self.m as usize + 1 {
             return 5;
         }
-        if !questions::message_below(self.q, self.m, message) {
+        if !code_questions::message_below(self.q, self.m, message) {
             return 6;
         }
-        if word.len() != questions::pow2(self.m) {
+        if word.len() != code_questions::pow2(self.m) {
             return 7;
         }
         0
@@ -148,8 +148,8 @@ impl Sender {
         if number != 0 {
             return Sent::Refused(number);
         }
-        let constant = slots::add_mod(self.q, self.last, message[0]);
-        slots::write(self.q, self.m, constant, message, word);
+        let constant = session_steps::add_mod(self.q, self.last, message[0]);
+        session_steps::write(self.q, self.m, constant, message, word);
         Sent::Used(Sender {
             q: self.q,
             m: self.m,
@@ -186,7 +186,11 @@ impl Reference {
         ensures { λ r. ⌜ r ≡ zoneFrom q self constant ⌝ }
     {
         match self {
-            Reference::Held(reference) => Zone::Known(slots::sub_mod(q, constant, reference)),
+            Reference::Held(reference) => Zone::Known(session_steps::sub_mod(
+                q,
+                constant,
+                reference,
+            )),
             Reference::Missing => Zone::Unknown,
         }
     }
@@ -215,7 +219,7 @@ impl Receiver {
         ensures answer { λ r. ⌜ receiverOpened r ≡ openAnswer q m ⌝ }
         ensures session { λ r. ⌜ openedReceiver r ≡ openReceiver q m ⌝ }
     {
-        let number = slots::open_refusal(q, m);
+        let number = session_steps::open_refusal(q, m);
         if number != 0 {
             return ReceiverOpened::Refused(number);
         }
@@ -235,8 +239,8 @@ impl Receiver {
         let m = self.m;
         let used = self.used;
         let reference = self.reference;
-        questions::is_alphabet(q)
-            && (questions::is_order(m)
+        code_questions::is_alphabet(q)
+            && (code_questions::is_order(m)
                 && (reference.is_below(q)
                     && (used <= Receiver::SLOTS && (0 < used || reference.is_missing()))))
     }

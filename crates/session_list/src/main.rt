@@ -1,14 +1,14 @@
 // The session list: reads the lines of a session from standard input and lists them on standard output. What is listed for the bytes of a
-// read, and what comes next, is decided by stream::turn; here are only the calls of the system. A read or a write that fails ends the list
+// read, and what comes next, is decided by list_stream::turn; here are only the calls of the system. A read or a write that fails ends the list
 // and says so on standard error: a list that is cut short looks like a whole one.
 use libc::STDIN_FILENO;
 use libc::STDOUT_FILENO;
-use stream::Next;
+use list_stream::Next;
 ghost use mathlib.Core.Path.{_≡_};
 ghost use mathlib.Core.Bool.{true, false};
 ghost use Prim.Native.Nat.{_≤_};
 ghost use lib.ListN.{length};
-ghost use Rattle.stream.specs.Turns.{given, placeOf, goesOn, IfRest};
+ghost use Rattle.list_stream.specs.Turns.{given, placeOf, goesOn, IfRest};
 
 // Where the listing stands: what the last read gave, and its error; the place in the chunk up to which it is listed; whether it goes on.
 struct Place {
@@ -87,11 +87,11 @@ fn write(out: &[u8], n: usize) -> bool
 fn list_all(chunk: &mut [u8], line: &mut [u8], out: &mut [u8])
     requires { ⌜ (length (now line) ≡ 17) × (64 ≤ length (now out)) ⌝ }
 {
-    let mut lister = stream::start();
+    let mut lister = list_stream::start();
     let mut place = read(chunk);
     let mut turns = u64::MAX;
     while turns > 0 {
-        let turn = stream::turn(lister, line, place.got, place.error, chunk, place.at, out);
+        let turn = list_stream::turn(lister, line, place.got, place.error, chunk, place.at, out);
         lister = turn.lister;
         if !write(out, turn.written) {
             return;
@@ -110,7 +110,7 @@ fn list_all(chunk: &mut [u8], line: &mut [u8], out: &mut [u8])
 fn list_session(chunk: &mut [u8], line: &mut [u8], out: &mut [u8])
     requires { ⌜ (length (now line) ≡ 17) × (64 ≤ length (now out)) ⌝ }
 {
-    let written = listing::put_header(out, 0);
+    let written = list_line::put_header(out, 0);
     if !write(out, written) {
         return;
     }

@@ -8,9 +8,9 @@ use native.Mathlib.Omega.{arith}
 use lib.IntN.{pos}
 use lib.ListN.{length, getD}
 use lib.Ieee.{Float, binary32, ofBits, ofInt, neg, le}
-use Rattle.theory.specs.Sum.{every}
-use Rattle.samples.specs.Numbers.{f32}
-use Rattle.samples.specs.Soft.{inRange, allInRange}
+use Rattle.code_theory.specs.Sum.{every}
+use Rattle.soft_theory.specs.Numbers.{f32}
+use Rattle.soft_theory.specs.Soft.{inRange, allInRange}
 use Rattle.soft.specs.Work.{rangeTo}
 
 top-bits : ofBits binary32 1123942400 ≡ ofInt binary32 (pos 127)

@@ -12,17 +12,17 @@ use lib.Dec.{eqb}
 use lib.ListN.{length, getD, take, set, length-set, length-take}
 use lib.Seq.{take-suc, take-suc-set, take-length, getD-set-same, getD-set-other, getD-take}
 use lib.Ieee.{Float}
-use Rattle.theory.proofs.EveryLaws.{every-no}
-use Rattle.theory.specs.Sum.{at, every}
-use Rattle.theory.specs.Question.{ask, isOrder, isMessageSize, accepted, refused, answer, after}
-use Rattle.theory.proofs.SumLaws.{tabulate-is}
-use Rattle.samples.specs.Numbers.{f32}
-use Rattle.samples.specs.Complex.{Complex, sample}
-use Rattle.samples.specs.Decision.{Decision, decide, isSure, symbol}
-use Rattle.samples.specs.Soft.{voteSums, coefficient, constantSums, decision, softMessage, allInRange, allSure, readRefusal, readAnswer, readMessage}
-use Rattle.samples.proofs.DecisionLaws.{symbol-lt, constant-ext, all-sure}
-use Rattle.sums.specs.Work.{Samples}
-use Rattle.turns.specs.Work.{Coefficients, coefficientsIn}
+use Rattle.code_theory.proofs.EveryLaws.{every-no}
+use Rattle.code_theory.specs.Sum.{at, every}
+use Rattle.code_theory.specs.Question.{ask, isOrder, isMessageSize, accepted, refused, answer, after}
+use Rattle.code_theory.proofs.SumLaws.{tabulate-is}
+use Rattle.soft_theory.specs.Numbers.{f32}
+use Rattle.soft_theory.specs.Complex.{Complex, sample}
+use Rattle.soft_theory.specs.Decision.{Decision, decide, isSure, symbol}
+use Rattle.soft_theory.specs.Soft.{voteSums, coefficient, constantSums, decision, softMessage, allInRange, allSure, readRefusal, readAnswer, readMessage}
+use Rattle.soft_theory.proofs.DecisionLaws.{symbol-lt, constant-ext, all-sure}
+use Rattle.soft_vote_sums.specs.Work.{Samples}
+use Rattle.soft_constant_sums.specs.Work.{Coefficients, coefficientsIn}
 use Rattle.soft.specs.Work.{sliceRefusal, sampleRefusal, sureTo, Found, constantDecision}
 
 -- what the code learns of a decision by the sums z

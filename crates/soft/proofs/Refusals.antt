@@ -9,13 +9,13 @@ use borrow.Author.Tests.{not-true, not-false, eqb-true, ltb-true, eq-eqb, ne-eqb
 use lib.Dec.{eqb, ltb}
 use lib.ListN.{length}
 use lib.Ieee.{Float}
-use Rattle.theory.specs.Question.{ask, isOrder}
-use Rattle.theory.proofs.QuestionLaws.{and-true, ask-yes, order-bounds}
-use Rattle.samples.specs.Numbers.{f32}
-use Rattle.samples.specs.Complex.{Complex, sample}
-use Rattle.samples.specs.Decision.{refused, decide}
-use Rattle.samples.specs.Soft.{allInRange, voteSums, voteRefusal, voteAnswer, softVote}
-use Rattle.sums.specs.Work.{Samples}
+use Rattle.code_theory.specs.Question.{ask, isOrder}
+use Rattle.code_theory.proofs.QuestionLaws.{and-true, ask-yes, order-bounds}
+use Rattle.soft_theory.specs.Numbers.{f32}
+use Rattle.soft_theory.specs.Complex.{Complex, sample}
+use Rattle.soft_theory.specs.Decision.{refused, decide}
+use Rattle.soft_theory.specs.Soft.{allInRange, voteSums, voteRefusal, voteAnswer, softVote}
+use Rattle.soft_vote_sums.specs.Work.{Samples}
 use Rattle.soft.specs.Work.{sliceRefusal, sampleRefusal}
 
 no : (b : Bool) (n rest : ℕ) → b ≡ false → n ≡ ask b n rest

@@ -1,6 +1,6 @@
 -- The number of document 01 for each case of the answer of the soft read.
 use mathlib.Core.List.{[]}
-use Rattle.theory.specs.Question.{Answer, accepted, refused}
+use Rattle.code_theory.specs.Question.{Answer, accepted, refused}
 use Rattle.soft.specs.declared.SoftRead.{SoftRead}
 use Rattle.soft.specs.declared.SoftRead.the-variants as Read
 

@@ -6,12 +6,12 @@ use mathlib.Core.List.{List}
 use lib.Dec.{eqb}
 use lib.ListN.{length, getD}
 use lib.Ieee.{Float}
-use Rattle.theory.specs.Sum.{at, every}
-use Rattle.theory.specs.Question.{ask, isOrder}
-use Rattle.samples.specs.Numbers.{f32}
-use Rattle.samples.specs.Complex.{sample}
-use Rattle.samples.specs.Decision.{Decision, decide, isSure}
-use Rattle.samples.specs.Soft.{voteSums, coefficient, constantSums, inRange, allInRange}
+use Rattle.code_theory.specs.Sum.{at, every}
+use Rattle.code_theory.specs.Question.{ask, isOrder}
+use Rattle.soft_theory.specs.Numbers.{f32}
+use Rattle.soft_theory.specs.Complex.{sample}
+use Rattle.soft_theory.specs.Decision.{Decision, decide, isSure}
+use Rattle.soft_theory.specs.Soft.{voteSums, coefficient, constantSums, inRange, allInRange}
 
 -- whether the first i parts of x are in range
 unfoldable pub rangeTo : List Float → ℕ → Bool

@@ -3,8 +3,8 @@ use Prim.Native.Nat.{ℕ, _+_, _*_, _/_, _%_, _^_}
 use mathlib.Core.Bool.{Bool}
 use mathlib.Core.List.{List, [], _∷_}
 use lib.Dec.{leb}
-use Rattle.theory.specs.Sum.{at}
-use Rattle.theory.specs.Question.{ask, isMessageSize, allBelow, Answer, accepted, refused, answer, after}
+use Rattle.code_theory.specs.Sum.{at}
+use Rattle.code_theory.specs.Question.{ask, isMessageSize, allBelow, Answer, accepted, refused, answer, after}
 use Rattle.strap.specs.declared.Report.{Report}
 use Rattle.strap.specs.declared.Packed.{Packed}
 use Rattle.strap.specs.declared.Packed.the-variants as P

@@ -80,7 +80,7 @@ fn unpack_refusal(message: &[u8]) -> u32
     if message.len() != 5 {
         return 5;
     }
-    if !questions::all_below(4, message) {
+    if !code_questions::all_below(4, message) {
         return 6;
     }
     0

@@ -2,7 +2,7 @@
 //! length, and checks nothing. Every wrapper answers for every input.
 
 mod raw {
-    #[link(name = "compare_c", kind = "static")]
+    #[link(name = "compare_codec", kind = "static")]
     extern "C" {
         pub fn compare_encode(
             q: u32,
@@ -28,7 +28,7 @@ mod raw {
         pub fn rm_read(q: u32, m: u32, message: *mut u8, message_len: usize, word: *const u8, word_len: usize) -> u32;
     }
 
-    #[link(name = "compare_session_c", kind = "static")]
+    #[link(name = "compare_session", kind = "static")]
     extern "C" {
         pub fn compare_open_sender(q: u32, m: u32, session: *mut u32, session_len: usize) -> u32;
         pub fn compare_open_receiver(q: u32, m: u32, session: *mut u32, session_len: usize) -> u32;
@@ -53,7 +53,7 @@ mod raw {
         pub fn compare_miss(session: *mut u32, session_len: usize) -> u32;
     }
 
-    #[link(name = "compare_soft_c", kind = "static")]
+    #[link(name = "compare_soft", kind = "static")]
     extern "C" {
         pub fn compare_soft_vote(
             m: u32,

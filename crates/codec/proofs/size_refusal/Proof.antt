@@ -3,8 +3,8 @@ use mathlib.Core.Path.{_≡_, sym, _∙_}
 use mathlib.Core.Bool.{true}
 use borrow.Author.Needs.{needs}
 use borrow.Author.Tests.{not-true, not-false}
-use Rattle.theory.specs.Question.{isAlphabet, isOrder}
-use Rattle.theory.proofs.QuestionLaws.{ask-on, ask-no, message-yes, message-no}
+use Rattle.code_theory.specs.Question.{isAlphabet, isOrder}
+use Rattle.code_theory.proofs.QuestionLaws.{ask-on, ask-no, message-yes, message-no}
 use Rattle.codec.specs.Asked.{sizeRefusal}
 use Rattle.codec.proofs.size_refusal.Statement.{statement}
 use Rattle.codec.proofs.size_refusal.Tie as tie

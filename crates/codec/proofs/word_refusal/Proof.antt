@@ -3,8 +3,8 @@ use mathlib.Core.Path.{_≡_, sym, _∙_}
 use mathlib.Core.Bool.{true}
 use borrow.Author.Needs.{needs}
 use borrow.Author.Tests.{not-true, not-false}
-use Rattle.theory.specs.Question.{isWordSize}
-use Rattle.theory.proofs.QuestionLaws.{ask-on, ask-no, word-yes, word-no, word-size}
+use Rattle.code_theory.specs.Question.{isWordSize}
+use Rattle.code_theory.proofs.QuestionLaws.{ask-on, ask-no, word-yes, word-no, word-size}
 use Rattle.codec.specs.Asked.{sizeRefusal}
 use Rattle.codec.proofs.Accepted.{sized, word-later, word-never}
 use Rattle.codec.proofs.word_refusal.Statement.{statement}

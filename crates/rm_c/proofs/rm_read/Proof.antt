@@ -3,7 +3,7 @@ use Prim.Native.Nat.{_+_}
 use mathlib.Core.Path.{sym, _∙_, ap}
 use native.Mathlib.Omega.{arith}
 use borrow.Author.Needs.{needs}
-use Rattle.theory.proofs.QuestionLaws.{after-yes, after-no}
+use Rattle.code_theory.proofs.QuestionLaws.{after-yes, after-no}
 use Rattle.codec.proofs.Answers.{decode-read, decode-number, decode-small}
 use Rattle.rm_c.specs.CForm.{numbered, readNumber}
 use Rattle.rm_c.proofs.rm_read.Statement.{statement}

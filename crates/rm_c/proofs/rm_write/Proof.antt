@@ -1,7 +1,7 @@
 -- `rm_write` meets its contract: the number for each answer of encode.
 use mathlib.Core.Path.{_≡_, sym, _∙_}
 use borrow.Author.Needs.{needs}
-use Rattle.theory.proofs.QuestionLaws.{after-yes, after-no}
+use Rattle.code_theory.proofs.QuestionLaws.{after-yes, after-no}
 use Rattle.codec.proofs.Answers.{encode-written, encode-number}
 use Rattle.rm_c.specs.CForm.{numbered, writeNumber}
 use Rattle.rm_c.proofs.rm_write.Statement.{statement}

@@ -5,10 +5,10 @@ use native.Mathlib.Omega.{arith}
 use lib.ListN.{length}
 use mir.Syntax.{w64}
 use mir.Facts.{toZ-ofZ}
-use Rattle.listing.specs.Listing.{opened}
-use Rattle.stream.specs.Stream.{Fit}
-use Rattle.stream.specs.Turns.{given}
-use Rattle.stream.proofs.TurnLaws.{turned-fits}
+use Rattle.list_line.specs.Listing.{opened}
+use Rattle.list_stream.specs.Stream.{Fit}
+use Rattle.list_stream.specs.Turns.{given}
+use Rattle.list_stream.proofs.TurnLaws.{turned-fits}
 use Rattle.session_list.proofs.ReadLaws.{back-room, back-place}
 use borrow.Author.Needs.{needs}
 use Rattle.session_list.proofs.list_all.Statement.{statement}

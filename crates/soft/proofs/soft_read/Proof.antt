@@ -3,7 +3,7 @@ use mathlib.Core.Path.{refl, ap, sym, _∙_}
 use native.Mathlib.Omega.{arith}
 use borrow.Author.Tests.{not-true, not-false}
 use lib.ListN.{length-set}
-use Rattle.samples.specs.Decision.{isSure, symbol}
+use Rattle.soft_theory.specs.Decision.{isSure, symbol}
 use Rattle.soft.specs.Answers.{softAnswered}
 use Rattle.soft.proofs.Refusals.{read-accepted}
 use Rattle.soft.proofs.ReadLaws.{one-unsure, constant-unsure, all-yes, message-is, read-out, read-unsure, read-sure}

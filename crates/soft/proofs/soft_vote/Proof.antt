@@ -1,7 +1,7 @@
 -- `soft_vote` meets its contract, by the number that the questions give.
 use mathlib.Core.Path.{_≡_, sym, _∙_}
 use native.Mathlib.Omega.{arith}
-use Rattle.decisions.specs.Voted.{voted}
+use Rattle.soft_decision.specs.Voted.{voted}
 use Rattle.soft.proofs.Refusals.{vote-accepted, vote-refused, vote-given, four-accepted, four-given}
 use borrow.Author.Needs.{needs}
 use Rattle.soft.proofs.soft_vote.Statement.{statement}

@@ -1,7 +1,7 @@
 -- `vote_refusal` meets its contract, by the tests that led to each answer.
 use mathlib.Core.Path.{sym, _∙_}
 use borrow.Author.Tests.{not-true, not-false}
-use Rattle.theory.proofs.QuestionLaws.{order-bounds}
+use Rattle.code_theory.proofs.QuestionLaws.{order-bounds}
 use Rattle.soft.proofs.Refusals.{sizes, vote-order, vote-size, vote-range, vote-no, vote-yes}
 use borrow.Author.Needs.{needs}
 use Rattle.soft.proofs.vote_refusal.Statement.{statement}

@@ -3,8 +3,8 @@ use mathlib.Core.Path.{_≡_, refl, sym, ap, _∙_}
 use native.Mathlib.Omega.{arith}
 use lib.ListN.{length, length-set}
 use borrow.Author.Needs.{needs}
-use Rattle.theory.specs.Question.{refused}
-use Rattle.theory.proofs.QuestionLaws.{answer-yes, answer-no, after-yes, after-no}
+use Rattle.code_theory.specs.Question.{refused}
+use Rattle.code_theory.proofs.QuestionLaws.{answer-yes, answer-no, after-yes, after-no}
 use Rattle.strap.specs.Strap.{packRefusal, packAnswer, packMessage, packed}
 use Rattle.strap.proofs.StrapLaws.{stored, packable}
 use Rattle.strap.proofs.pack.Statement.{statement}

@@ -3,9 +3,9 @@ use mathlib.Core.Path.{_≡_, sym, ap, _∙_}
 use mathlib.Core.List.{[], _∷_}
 use native.Mathlib.Omega.{arith}
 use borrow.Author.Needs.{needs}
-use Rattle.theory.specs.Sum.{at}
-use Rattle.theory.specs.Question.{accepted, refused}
-use Rattle.theory.proofs.QuestionLaws.{answer-yes, answer-no}
+use Rattle.code_theory.specs.Sum.{at}
+use Rattle.code_theory.specs.Question.{accepted, refused}
+use Rattle.code_theory.proofs.QuestionLaws.{answer-yes, answer-no}
 use Rattle.strap.specs.Strap.{zoneOf, unpackRefusal, unpackAnswer, unpacked}
 use Rattle.strap.proofs.StrapLaws.{unpackable}
 use Rattle.strap.proofs.unpack.Statement.{statement}

@@ -2,7 +2,7 @@
 use mathlib.Core.Path.{sym, ap, _∙_}
 use borrow.Author.Needs.{needs}
 use borrow.Author.Tests.{not-true, not-false}
-use Rattle.theory.specs.Question.{ask}
+use Rattle.code_theory.specs.Question.{ask}
 use Rattle.strap.proofs.StrapLaws.{unpack-5, unpack-6}
 use Rattle.strap.proofs.unpack_refusal.Statement.{statement}
 use Rattle.strap.proofs.unpack_refusal.Tie as tie

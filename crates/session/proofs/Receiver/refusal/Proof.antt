@@ -3,7 +3,7 @@ use mathlib.Core.Path.{_≡_, sym, _∙_}
 use mathlib.Core.Bool.{true}
 use borrow.Author.Needs.{needs}
 use borrow.Author.Tests.{not-true, not-false, lt-ltb, le-ltb}
-use Rattle.theory.proofs.QuestionLaws.{ask-on, ask-no}
+use Rattle.code_theory.proofs.QuestionLaws.{ask-on, ask-no}
 use Rattle.session.specs.Receiving.{soundReceiver, missRefusal}
 use Rattle.session.proofs.Receiver.refusal.Statement.{statement}
 use Rattle.session.proofs.Receiver.refusal.Tie as tie

@@ -4,8 +4,8 @@ use mathlib.Core.Bool.{true}
 use lib.Dec.{ltb}
 use borrow.Author.Needs.{needs}
 use borrow.Author.Tests.{not-true, not-false, lt-ltb, le-ltb}
-use Rattle.theory.specs.Question.{isMessageSize, allBelow}
-use Rattle.theory.proofs.QuestionLaws.{ask-on, ask-no, message-yes, message-no, word-yes, word-no, order-bounds}
+use Rattle.code_theory.specs.Question.{isMessageSize, allBelow}
+use Rattle.code_theory.proofs.QuestionLaws.{ask-on, ask-no, message-yes, message-no, word-yes, word-no, order-bounds}
 use Rattle.session.specs.Slot.{slots}
 use Rattle.session.specs.Sending.{soundSender, sendRefusal}
 use Rattle.session.proofs.SoundLaws.{sender-parts}

@@ -1,0 +1,35 @@
+-- The votes for the symbols of a message (source document 001, definition 1).
+use Prim.Native.Nat.{ℕ, zero, suc, _+_, _^_, _≤_, _<_}
+use Rattle.code_theory.specs.Sum.{sum}
+use Rattle.code_theory.specs.Index.{bit, ifClear}
+use Rattle.code_theory.specs.Modular.{subMod, same}
+use Rattle.code_theory.specs.Code.{linear}
+
+-- how many of the votes cast 0 to cast (n - 1) are for v, those of the places that are not closed
+unfoldable pub count : ℕ → (ℕ → ℕ) → (ℕ → ℕ) → ℕ → ℕ
+count n closed cast v = sum n (λ i. ifClear (closed i) (same (cast i) v))
+
+-- the vote for coefficient k that place i casts, where its bit k is 0
+unfoldable pub vote : ℕ → ℕ → (ℕ → ℕ) → ℕ → ℕ
+vote q k y i = subMod q (y (i + 2 ^ k)) (y i)
+
+-- the votes of the word y for coefficient k
+unfoldable pub votes : ℕ → ℕ → ℕ → (ℕ → ℕ) → ℕ → ℕ
+votes q m k y = count (2 ^ m) (bit k) (vote q k y)
+
+-- what is left of the word y at i when the coefficients of the message s are taken out
+unfoldable pub residue : ℕ → ℕ → (ℕ → ℕ) → (ℕ → ℕ) → ℕ → ℕ
+residue q m s y i = subMod q (y i) (linear m (λ k. s (suc k)) i)
+
+-- the votes of the word y for the constant: every place casts what is left there
+unfoldable pub residues : ℕ → ℕ → (ℕ → ℕ) → (ℕ → ℕ) → ℕ → ℕ
+residues q m s y = count (2 ^ m) (λ i. 0) (residue q m s y)
+
+-- the votes for symbol k of the message s: the constant at 0, coefficient k - 1 at k
+unfoldable pub tally : ℕ → ℕ → (ℕ → ℕ) → (ℕ → ℕ) → ℕ → ℕ → ℕ
+tally q m s y zero = residues q m s y
+tally q m s y (suc k) = votes q m k y
+
+-- no value has more votes than the symbol of the message s
+abbrev pub Winners : ℕ → ℕ → (ℕ → ℕ) → (ℕ → ℕ) → Type 0
+Winners q m s y = (k : ℕ) → k < suc m → (v : ℕ) → v < q → tally q m s y k v ≤ tally q m s y k (s k)

@@ -1,0 +1,188 @@
+// The message of a word of 4, 8, 16 or 32 places, by the value that most votes have, with no count of the others. The word stands in the
+// four-bit lanes of one number, or of two, as lanes packs it. One vote is left out where their number is even; if any message is near the
+// word, it is this one.
+ghost use mathlib.Core.Path.{_≡_};
+ghost use mathlib.Core.Bool.{true};
+ghost use Prim.Native.Nat.{_%_, _^_, _<_};
+ghost use Rattle.code_theory.specs.Question.{isAlphabet};
+ghost use Rattle.swar_lanes.specs.Lane.{Below};
+ghost use Rattle.swar_lanes.specs.Ballot.{laneBit};
+ghost use Rattle.swar_majority.specs.Most.{threeOf, sevenOf, fifteenOf};
+ghost use Rattle.decode_short_candidate.specs.Guess.{Rest, Chosen, message, GuessOf, GuessOfBoth};
+
+// What is left of a word when the word of four coefficients is taken out: the votes for the constant.
+fn rest(q: u64, x: u64, c0: u64, c1: u64, c2: u64, c3: u64) -> u64
+    requires { ⌜ (isAlphabet q ≡ true) × Below q x × (c0 < q) × (c1 < q) × (c2 < q) × (c3 < q) ⌝ }
+    ensures { λ r. ⌜ Rest q x c0 c1 c2 c3 r ⌝ }
+{
+    swar_lanes::less(q, x, decode_short_errors::code(q, c0, c1, c2, c3))
+}
+
+// The symbol in the low bits of a number.
+fn symbol(q: u64, x: u64) -> u64
+    requires { ⌜ isAlphabet q ≡ true ⌝ }
+    ensures { λ r. ⌜ r ≡ x % q ⌝ }
+{
+    x & (q - 1)
+}
+
+// The symbol that two or more of three lanes are: those of the places 0, 2^i and 2^j.
+fn three(q: u64, d: u64, i: u32, j: u32) -> u64
+    requires { ⌜ (isAlphabet q ≡ true) × (i < 4) × (j < 4) ⌝ }
+    ensures { λ r. ⌜ Chosen q 2 (threeOf d (2 ^ laneBit i) (2 ^ laneBit j)) r ⌝ }
+{
+    symbol(
+        q,
+        swar_majority::most_of_3(d, swar_lanes::apart(i), swar_lanes::apart(j)),
+    )
+}
+
+// The symbol that four or more of seven lanes are: those of the places with one or two of the bits i, j and k set, or none.
+fn seven(q: u64, d: u64, i: u32, j: u32, k: u32) -> u64
+    requires { ⌜ (isAlphabet q ≡ true) × (i < j) × (j < k) × (k < 4) ⌝ }
+    ensures { λ r. ⌜ Chosen q 4 (sevenOf d (2 ^ laneBit i) (2 ^ laneBit j) (2 ^ laneBit k)) r ⌝ }
+{
+    symbol(
+        q,
+        swar_majority::most_of_7(
+            d,
+            swar_lanes::apart(i),
+            swar_lanes::apart(j),
+            swar_lanes::apart(k),
+        ),
+    )
+}
+
+// The symbol that eight or more of fifteen lanes are: those seven of d, and the same of e with the one whose place has all three bits set.
+fn fifteen(q: u64, d: u64, e: u64, i: u32, j: u32, k: u32) -> u64
+    requires { ⌜ (isAlphabet q ≡ true) × (i < j) × (j < k) × (k < 4) ⌝ }
+    ensures { λ r. ⌜ Chosen q 8 (fifteenOf d e (2 ^ laneBit i) (2 ^ laneBit j) (2 ^ laneBit k)) r ⌝ }
+{
+    symbol(
+        q,
+        swar_majority::most_of_15(
+            d,
+            e,
+            swar_lanes::apart(i),
+            swar_lanes::apart(j),
+            swar_lanes::apart(k),
+        ),
+    )
+}
+
+// The constant and the coefficients of a message; those past its order are 0.
+pub struct Guess {
+    pub constant: u64,
+    pub c0: u64,
+    pub c1: u64,
+    pub c2: u64,
+    pub c3: u64,
+    pub c4: u64,
+}
+
+// The guess of a word of 4 places: one vote for each coefficient, and place 0 is the constant.
+pub fn guess_4(q: u64, x: u64) -> Guess
+    requires { ⌜ (isAlphabet q ≡ true) × Below q x ⌝ }
+    ensures { λ r. ⌜ (r .c2 ≡ 0) × (r .c3 ≡ 0) × (r .c4 ≡ 0) × GuessOf q 2 x (message (r .constant) (r .c0) (r .c1) (r .c2) (r .c3) (r .c4)) ⌝ }
+{
+    let c0 = symbol(q, swar_lanes::ahead(q, 0, x));
+    let c1 = symbol(q, swar_lanes::ahead(q, 1, x));
+    Guess {
+        constant: symbol(q, x),
+        c0,
+        c1,
+        c2: 0,
+        c3: 0,
+        c4: 0,
+    }
+}
+
+// The guess of a word of 8 places: three of four votes for each coefficient, and three of eight for the constant.
+pub fn guess_8(q: u64, x: u64) -> Guess
+    requires { ⌜ (isAlphabet q ≡ true) × Below q x ⌝ }
+    ensures { λ r. ⌜ (r .c3 ≡ 0) × (r .c4 ≡ 0) × GuessOf q 3 x (message (r .constant) (r .c0) (r .c1) (r .c2) (r .c3) (r .c4)) ⌝ }
+{
+    let c0 = three(q, swar_lanes::ahead(q, 0, x), 1, 2);
+    let c1 = three(q, swar_lanes::ahead(q, 1, x), 0, 2);
+    let c2 = three(q, swar_lanes::ahead(q, 2, x), 0, 1);
+    let left = rest(q, x, c0, c1, c2, 0);
+    Guess {
+        constant: three(q, left, 0, 1),
+        c0,
+        c1,
+        c2,
+        c3: 0,
+        c4: 0,
+    }
+}
+
+// The guess of a word of 16 places: seven of eight votes for each coefficient, and seven of sixteen for the constant.
+pub fn guess_16(q: u64, x: u64) -> Guess
+    requires { ⌜ (isAlphabet q ≡ true) × Below q x ⌝ }
+    ensures { λ r. ⌜ (r .c4 ≡ 0) × GuessOf q 4 x (message (r .constant) (r .c0) (r .c1) (r .c2) (r .c3) (r .c4)) ⌝ }
+{
+    let c0 = seven(q, swar_lanes::ahead(q, 0, x), 1, 2, 3);
+    let c1 = seven(q, swar_lanes::ahead(q, 1, x), 0, 2, 3);
+    let c2 = seven(q, swar_lanes::ahead(q, 2, x), 0, 1, 3);
+    let c3 = seven(q, swar_lanes::ahead(q, 3, x), 0, 1, 2);
+    let left = rest(q, x, c0, c1, c2, c3);
+    Guess {
+        constant: seven(q, left, 0, 1, 2),
+        c0,
+        c1,
+        c2,
+        c3,
+        c4: 0,
+    }
+}
+
+// The guess of a word of 32 places: fifteen of sixteen votes for each coefficient, and fifteen of the first sixteen for the constant.
+pub fn guess_32(q: u64, x: u64, y: u64) -> Guess
+    requires { ⌜ (isAlphabet q ≡ true) × Below q x × Below q y ⌝ }
+    ensures { λ r. ⌜ GuessOfBoth q 5 x y (message (r .constant) (r .c0) (r .c1) (r .c2) (r .c3) (r .c4)) ⌝ }
+{
+    let c0 = fifteen(
+        q,
+        swar_lanes::ahead(q, 0, x),
+        swar_lanes::ahead(q, 0, y),
+        1,
+        2,
+        3,
+    );
+    let c1 = fifteen(
+        q,
+        swar_lanes::ahead(q, 1, x),
+        swar_lanes::ahead(q, 1, y),
+        0,
+        2,
+        3,
+    );
+    let c2 = fifteen(
+        q,
+        swar_lanes::ahead(q, 2, x),
+        swar_lanes::ahead(q, 2, y),
+        0,
+        1,
+        3,
+    );
+    let c3 = fifteen(
+        q,
+        swar_lanes::ahead(q, 3, x),
+        swar_lanes::ahead(q, 3, y),
+        0,
+        1,
+        2,
+    );
+    // The partner of a place in x, for the last coefficient, stands in the same lane of y.
+    let d = swar_lanes::less(q, y, x);
+    let c4 = fifteen(q, d, swar_lanes::partners(3, d), 0, 1, 2);
+    let left = rest(q, x, c0, c1, c2, c3);
+    Guess {
+        constant: fifteen(q, left, swar_lanes::partners(3, left), 0, 1, 2),
+        c0,
+        c1,
+        c2,
+        c3,
+        c4,
+    }
+}

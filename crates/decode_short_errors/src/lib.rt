@@ -1,0 +1,46 @@
+// A received word beside the word of a message, in lanes: sixteen places stand in the four-bit lanes of one number, as lanes packs them.
+ghost use mathlib.Core.Path.{_≡_};
+ghost use mathlib.Core.Bool.{true};
+ghost use Prim.Native.Nat.{ℕ, _+_, _*_, _%_, _<_};
+ghost use Rattle.code_theory.specs.Sum.{sum};
+ghost use Rattle.code_theory.specs.Modular.{subMod};
+ghost use Rattle.code_theory.specs.Question.{isAlphabet};
+ghost use Rattle.swar_theory.specs.Digit.{digit};
+ghost use Rattle.swar_lanes.specs.Lane.{offset, Lanes, Below};
+ghost use Rattle.decode_short_lead.specs.Lead.{Mask};
+ghost use Rattle.decode_short_errors.specs.Places.{plain, zeroPlaces};
+
+// The lanes of c, plus a where a lane is marked, modulo q.
+fn plus(q: u64, c: u64, a: u64, marks: u64) -> u64
+    requires { ⌜ (isAlphabet q ≡ true) × Below q c × (a < q) × Mask marks ⌝ }
+    ensures { λ r. ⌜ Lanes r (λ t. (digit 4 c t + a * digit 4 marks t) % q) ⌝ }
+{
+    (c + a * marks) & ((q - 1) * 0x1111_1111_1111_1111)
+}
+
+// The word of four coefficients, with the constant 0.
+pub fn code(q: u64, c0: u64, c1: u64, c2: u64, c3: u64) -> u64
+    requires { ⌜ (isAlphabet q ≡ true) × (c0 < q) × (c1 < q) × (c2 < q) × (c3 < q) ⌝ }
+    ensures { λ r. ⌜ Lanes r (λ t. plain q c0 c1 c2 c3 (offset t)) ⌝ }
+{
+    let x = plus(q, 0, c0, 0x1100_1100_1100_1100);
+    let x = plus(q, x, c1, 0x1111_0000_1111_0000);
+    let x = plus(q, x, c2, 0x1111_1111_0000_0000);
+    plus(q, x, c3, 0x1010_1010_1010_1010)
+}
+
+// What is left of a word when the code and the constant are taken out: 0 in every place that is as it was sent.
+pub fn errors(q: u64, x: u64, code: u64, a: u64) -> u64
+    requires { ⌜ (isAlphabet q ≡ true) × Below q x × Below q code × (a < q) ⌝ }
+    ensures { λ r. ⌜ Lanes r (λ t. subMod q (subMod q (digit 4 x t) (digit 4 code t)) a) ⌝ }
+{
+    swar_lanes::less(q, swar_lanes::less(q, x, code), a * 0x1111_1111_1111_1111)
+}
+
+// How many of the marked places, fewer than 15, have no error.
+pub fn right(e: u64, marks: u64) -> u32
+    requires { ⌜ Below 8 e × Mask marks × (sum 16 (digit 4 marks) < 15) ⌝ }
+    ensures { λ r. ⌜ r ≡ zeroPlaces e marks ⌝ }
+{
+    decode_short_lead::total(decode_short_lead::equal(e, 0, marks))
+}

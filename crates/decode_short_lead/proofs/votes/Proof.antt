@@ -1,0 +1,22 @@
+-- `votes` meets its contract: 1 in every lane that is v, and the lanes added.
+use mathlib.Core.Path.{_∙_}
+use native.Mathlib.Omega.{arith}
+use Rattle.decode_short_lead.proofs.EqualLaws.{every-lane, equal-sum}
+use Rattle.decode_short_lead.proofs.votes.Statement.{statement}
+use Rattle.decode_short_lead.proofs.votes.Tie as tie
+
+equal-requires : tie.Need-equal-requires
+equal-requires c κs = (c .pre .0, c .pre .1, every-lane)
+
+total-requires : tie.Need-total-requires
+total-requires c κs =
+    let s = c .before in
+    omega (arith, equal-sum (s .args .x) (s .args .v) (c .equal .result) (c .equal .ensures), s .pre .2)
+
+returns : tie.Need-returns
+returns c =
+    let s = c .before .before in
+    c .total .ensures ∙ equal-sum (s .args .x) (s .args .v) (c .before .equal .result) (c .before .equal .ensures)
+
+pub votes-spec : {M : Type 1} → statement M
+votes-spec = tie.close (tie.spec equal-requires total-requires returns)

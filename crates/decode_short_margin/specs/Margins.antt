@@ -1,0 +1,34 @@
+-- The places of a word in lanes, and the votes that they cast.
+use Prim.Native.Nat.{ℕ, _+_, _*_, _-_, _/_, _%_, _≤_, _<_}
+use mathlib.Core.Path.{_≡_}
+use mathlib.Core.Bool.{true, cond}
+use lib.Dec.{ltb}
+use Rattle.code_theory.specs.Vote.{votes}
+use Rattle.code_theory.specs.Question.{isAlphabet}
+use Rattle.code_theory.proofs.ErrorLaws.{sumFrom1, maxFrom1}
+use Rattle.swar_theory.specs.Digit.{digit}
+use Rattle.swar_lanes.specs.Lane.{laneOf, Below}
+
+-- place i of the sixteen that f holds
+unfoldable pub placeOf : ℕ → ℕ → ℕ
+placeOf f i = digit 4 f (laneOf i)
+
+-- place i of the 32 that f and h hold
+unfoldable pub placesOf : ℕ → ℕ → ℕ → ℕ
+placesOf f h i = cond (ltb i 16) (placeOf f i) (placeOf h (i - 16))
+
+-- the votes of both numbers for coefficient k, below 4
+unfoldable pub bothVotes : ℕ → ℕ → ℕ → ℕ → ℕ → ℕ
+bothVotes q k f h v = votes q 4 k (placeOf f) v + votes q 4 k (placeOf h) v
+
+-- the lead of 0 among `half` votes, by those that g gives to the values from 1 to q - 1
+unfoldable pub leadBy : ℕ → ℕ → (ℕ → ℕ) → ℕ
+leadBy q half g = half - sumFrom1 (q - 1) g - maxFrom1 (q - 1) g
+
+-- f and h hold symbols, and at most half of the votes for each of the coefficients 0 to 3 are wrong
+pub record Errors (q half f h : ℕ) : Type 0 where
+  pub alphabet : isAlphabet q ≡ true
+  pub first : Below q f
+  pub second : Below q h
+  pub size : half ≤ 16
+  pub few : (k : ℕ) → k < 4 → 2 * sumFrom1 (q - 1) (bothVotes q k f h) ≤ half

@@ -1,0 +1,72 @@
+-- What Write's questions leave, by the first with a no. Assumes nothing.
+use Prim.Native.Nat.{ℕ, suc, _^_, _≤_}
+use mathlib.Core.Path.{_≡_, refl, sym, _∙_}
+use mathlib.Core.Bool.{Bool, true, false}
+use mathlib.Core.List.{List}
+use native.Mathlib.Omega.{arith}
+use lib.ListN.{length}
+use Rattle.code_theory.specs.Code.{codeword}
+use Rattle.code_theory.specs.Question.{isAlphabet, isOrder, isMessageSize, isWordSize, allBelow}
+use Rattle.code_theory.proofs.QuestionLaws.{ask-yes, ask-on, ask-no, order-bounds, message-size, word-size, symbols, after-yes, after-no}
+use Rattle.encode_codeword.specs.Coded.{Fits}
+use Rattle.encode_by_length.specs.Encoder.{encodeRefusal, encodeWord}
+
+-- the number of Write's first question with a no, and that the word is left as it is
+module _ (q m : ℕ) (s w : List ℕ) where
+  left-as-is : (n : ℕ) → encodeRefusal q m s w ≡ suc n → (suc n ≡ encodeRefusal q m s w) × (w ≡ encodeWord q m s w)
+  unfolding encodeWord
+  left-as-is n e = (sym e, sym (after-no _ _ _ (λ z. absurd (omega (arith, e, z)))))
+
+  pub alphabet-no : isAlphabet q ≡ false → (1 ≡ encodeRefusal q m s w) × (w ≡ encodeWord q m s w)
+  unfolding encodeRefusal
+  alphabet-no a = left-as-is 0 (ask-no _ _ _ a)
+
+  module _ (a : isAlphabet q ≡ true) where
+    pub order-no : (2 ≤ m → m ≤ 8 → ⊥) → (2 ≡ encodeRefusal q m s w) × (w ≡ encodeWord q m s w)
+    unfolding encodeRefusal
+    order-no h = left-as-is 1 (ask-on _ _ _ a ∙ ask-no _ _ _ (go (isOrder m) refl))
+      where
+        go : (b : Bool) → isOrder m ≡ b → b ≡ false
+        go true e = let (low, high) = order-bounds m e in absurd (h low high)
+        go false e = refl
+
+    module _ (b : isOrder m ≡ true) where
+      pub size-no : isMessageSize m s ≡ false → (5 ≡ encodeRefusal q m s w) × (w ≡ encodeWord q m s w)
+      unfolding encodeRefusal
+      size-no c = left-as-is 4 (ask-on _ _ _ a ∙ ask-on _ _ _ b ∙ ask-no _ _ _ c)
+
+      module _ (c : isMessageSize m s ≡ true) where
+        pub below-no : allBelow q s ≡ false → (6 ≡ encodeRefusal q m s w) × (w ≡ encodeWord q m s w)
+        unfolding encodeRefusal
+        below-no d = left-as-is 5 (ask-on _ _ _ a ∙ ask-on _ _ _ b ∙ ask-on _ _ _ c ∙ ask-no _ _ _ d)
+
+        module _ (d : allBelow q s ≡ true) where
+          pub word-no-room : isWordSize m w ≡ false → (7 ≡ encodeRefusal q m s w) × (w ≡ encodeWord q m s w)
+          unfolding encodeRefusal
+          word-no-room e = left-as-is 6 (ask-on _ _ _ a ∙ ask-on _ _ _ b ∙ ask-on _ _ _ c ∙ ask-on _ _ _ d ∙ ask-no _ _ _ e)
+
+          pub all-yes : isWordSize m w ≡ true → encodeRefusal q m s w ≡ 0
+          unfolding encodeRefusal
+          all-yes e = ask-on _ _ _ a ∙ ask-on _ _ _ b ∙ ask-on _ _ _ c ∙ ask-on _ _ _ d ∙ ask-on _ _ _ e
+
+-- the same for an order that is written out
+pub in-order : (q m j r : ℕ) (s w v : List ℕ) → j ≡ m → (r ≡ encodeRefusal q j s w) × (v ≡ encodeWord q j s w) → (r ≡ encodeRefusal q m s w) × (v ≡ encodeWord q m s w)
+in-order q m j r s w v e d = rw e at d
+
+-- where all have a yes, the word of the message fits its slice and fills it
+pub all-fits : (q m : ℕ) (s w : List ℕ) → encodeRefusal q m s w ≡ 0 → Fits q m s w × (length w ≡ 2 ^ m)
+unfolding encodeRefusal
+all-fits q m s w e =
+    let (a, e1) = ask-yes (isAlphabet q) 0 _ e in
+    let (b, e2) = ask-yes (isOrder m) 1 _ e1 in
+    let (c, e3) = ask-yes (isMessageSize m s) 4 _ e2 in
+    let (d, e4) = ask-yes (allBelow q s) 5 _ e3 in
+    let room = word-size m w (ask-yes (isWordSize m w) 6 _ e4 .0) in
+    let (low, high) = order-bounds m b in
+    let size = message-size m s c in
+    (record { alphabet = a; low = low; order = high; size = omega (arith, size); below = symbols q (suc m) s size d .below; room = omega (arith, room) }, room)
+
+-- the word that Write leaves where all have a yes
+pub word-written : (q m : ℕ) (s w v : List ℕ) → encodeRefusal q m s w ≡ 0 → v ≡ codeword q m s → (0 ≡ encodeRefusal q m s w) × (v ≡ encodeWord q m s w)
+unfolding encodeWord
+word-written q m s w v z e = (sym z, e ∙ sym (after-yes _ _ _ z))

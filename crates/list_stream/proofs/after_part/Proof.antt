@@ -1,0 +1,16 @@
+-- `after_part` meets its contract, by its two tests.
+use Rattle.list_stream.proofs.TurnLaws.{part-over, part-last, part-rest}
+use Rattle.list_stream.proofs.after_part.Statement.{statement}
+use Rattle.list_stream.proofs.after_part.Tie as tie
+
+returns : tie.Need-returns
+returns c = part-over _ _ _ (c .if1 .taken)
+
+returns-2 : tie.Need-returns-2
+returns-2 c = part-last _ _ _ (c .before .if1 .left) (c .if2 .taken)
+
+returns-3 : tie.Need-returns-3
+returns-3 c = part-rest _ _ _ (c .before .if1 .left) (c .if2 .left)
+
+pub after-part-spec : {M : Type 1} → statement M
+after-part-spec = tie.close (tie.spec returns returns-2 returns-3)

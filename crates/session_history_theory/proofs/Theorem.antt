@@ -1,0 +1,339 @@
+-- DEMAND 3: the theorem about two whole lists of calls. Assumes nothing.
+use Prim.Native.Nat.{ℕ, zero, suc, _+_, _*_, _%_, _^_, _<_}
+use mathlib.Core.Path.{_≡_, refl, ap, ap₂, sym, subst, subst₂, _∙_}
+use mathlib.Core.Logic.{_≢_, _↔_}
+use mathlib.Core.Bool.{true, false}
+use mathlib.Core.List.{List, [], _∷_, _++_}
+use mathlib.Core.Option.{Option, none, some, Option·some-injective, Option·none-ne-some}
+use native.Mathlib.Nat.{zero-add}
+use native.Mathlib.Omega.{arith}
+use lib.ListN.{length, set, getElem?}
+use lib.Seq.{getD-set-same, getD-set-other}
+use Rattle.code_theory.specs.Sum.{at}
+use Rattle.code_theory.specs.Modular.{subMod}
+use Rattle.code_theory.specs.Code.{codeword, Symbols}
+use Rattle.code_theory.specs.Near.{distance}
+use Rattle.code_theory.specs.Turn.{altered}
+use Rattle.code_theory.specs.Nearest.{nearest, isReadable, nearMessage, nearDistance}
+use Rattle.code_theory.specs.Question.{isAlphabet, isOrder}
+use Rattle.code_theory.proofs.TurnLaws.{never-both, altered-set, nearest-turned, subMod-turned}
+use Rattle.code_theory.proofs.NearestLaws.{readable}
+use Rattle.session.specs.declared.Sender.{Sender}
+use Rattle.session.specs.declared.Receiver.{Receiver}
+use Rattle.session.specs.declared.Delivery.{Delivery}
+use Rattle.session.specs.declared.Reference.{Reference}
+use Rattle.session.specs.declared.Reference.the-variants.{Missing}
+use Rattle.session.specs.declared.Zone.{Zone}
+use Rattle.session.specs.declared.Zone.the-variants.{Known, Unknown}
+use Rattle.session.specs.Slot.{slots, slotTime}
+use Rattle.session.specs.Sending.{openSender, sendRefusal, sendConstant}
+use Rattle.session.specs.Receiving.{openReceiver, isBelow, isMissing, receiveRefusal, missRefusal, receiveConstant, zoneFrom, zoneSymbol, receiveDelivery, zoneValues, deliveryValues, nextReceiver}
+use Rattle.code_theory.proofs.QuestionLaws.{alphabet-positive}
+use Rattle.session.proofs.SoundLaws.{sender-opened, receiver-opened, sender-sound, receiver-sound, near-symbols}
+use Rattle.session_history_theory.specs.Calls.{Send, SenderSlot, senderCall, senderSlot, senderSlots, senderAfter, ReceiverCall, ReceiverSlot, read, doubtful, missed, receiverCall, receiverSlot, receiverSlots, receiverAfter}
+use Rattle.session_history_theory.specs.Whole.{wordOf, Such, Accepted, Unmeasured, first, afterMissed, afterDoubtful, WholeSessions}
+use Rattle.session_history_theory.proofs.Run.{before, before-next, Chain, chain, chain-made, chain-before, chain-end}
+use Rattle.session_history_theory.proofs.SenderRun.{nextSender, SentBy, sender-step, SenderAt, sender-keep}
+use Rattle.session_history_theory.proofs.ReceiverRun.{referenceAfter, nextSlot, Heard, ReceivedBy, receiver-step, ReceiverAt, receiver-keep}
+use Rattle.session_history_theory.proofs.FullLaws.{send-not-3, send-full, miss-not-3, miss-full, receive-not-3, receive-full}
+
+-- the slot x was sent by a session of this q and m, with this last constant
+pub record SentFrom (q m last : ℕ) (x : SenderSlot) : Type 0 where
+  pub symbols : Symbols q (suc m) (x .message)
+  pub word : x .word ≡ codeword q m (set (x .message) 0 ((last + at (x .message) 0) % q))
+
+sent-from : (q m n : ℕ) (s : Sender) (x : SenderSlot) → SenderAt q m n s → SentBy s x → SentFrom q m (s .last) x
+unfolding sendConstant
+sent-from q m n s x h b = record {
+  symbols = subst₂ (λ a c. Symbols a (suc c) (x .message)) (h .isQ) (h .isM) (b .symbols);
+  word = subst₂ (λ a c. x .word ≡ codeword a c (set (x .message) 0 ((s .last + at (x .message) 0) % a))) (h .isQ) (h .isM) (b .word);
+}
+
+-- the slot of this word was read by a session of this q and m, with this reference and so many slots used
+pub record ReadFrom (q m : ℕ) (reference : Reference) (used : ℕ) (y buffer : List ℕ) (delivery : Delivery) : Type 0 where
+  pub readable : isReadable q m y ≡ true
+  pub message : buffer ≡ set (nearMessage q m y) 0 (zoneSymbol (delivery .zone))
+  pub zone : delivery .zone ≡ zoneFrom q reference (receiveConstant q m y)
+  pub wrong : delivery .wrong ≡ nearDistance q m y
+  pub time : delivery .time ≡ slotTime used
+
+-- the values answered tell the delivery
+parts-told : (z z′ : Zone) (w g t w′ g′ t′ : ℕ) → zoneValues z ++ (w ∷ g ∷ t ∷ []) ≡ zoneValues z′ ++ (w′ ∷ g′ ∷ t′ ∷ [])
+    → _≡_ {A = Delivery} (record { zone = z; wrong = w; margin = g; time = t }) (record { zone = z′; wrong = w′; margin = g′; time = t′ })
+unfolding zoneValues
+parts-told (Known d) (Known d′) w g t w′ g′ t′ e = cc
+parts-told (Known d) Unknown w g t w′ g′ t′ e = cc
+parts-told Unknown (Known d′) w g t w′ g′ t′ e = cc
+parts-told Unknown Unknown w g t w′ g′ t′ e = cc
+
+delivery-told : (d e : Delivery) → deliveryValues d ≡ deliveryValues e → d ≡ e
+unfolding deliveryValues
+delivery-told d e h = parts-told (d .zone) (e .zone) (d .wrong) (d .margin) (d .time) (e .wrong) (e .margin) (e .time) h
+
+read-from : (q m n : ℕ) (s : Receiver) (word message : List ℕ) (delivery : Delivery) → ReceiverAt q m n s → Heard s (read word message (deliveryValues delivery))
+    → ReadFrom q m (s .reference) n word message delivery
+unfolding receiveDelivery
+read-from q m n s word message delivery h (r, e, v) =
+    let d : delivery ≡ receiveDelivery s word = delivery-told delivery (receiveDelivery s word) v in
+    record {
+      readable = subst₂ (λ a c. isReadable a c word ≡ true) (h .isQ) (h .isM) r;
+      message = subst₂ (λ a c. message ≡ set (nearMessage a c word) 0 (zoneSymbol (delivery .zone))) (h .isQ) (h .isM) (e ∙ ap (λ x. set (nearMessage (s .q) (s .m) word) 0 (zoneSymbol (x .zone))) (sym d));
+      zone = ap (λ x. x .zone) d ∙ ap₂ (λ a c. zoneFrom a (s .reference) (receiveConstant a c word)) (h .isQ) (h .isM);
+      wrong = ap (λ x. x .wrong) d ∙ ap₂ (λ a c. nearDistance a c word) (h .isQ) (h .isM);
+      time = ap (λ x. x .time) d ∙ ap slotTime (h .used);
+    }
+
+-- what a slot read says in place 0
+read-place : (q m : ℕ) (reference : Reference) (used : ℕ) (word message : List ℕ) (delivery : Delivery) → ReadFrom q m reference used word message delivery
+    → at message 0 ≡ zoneSymbol (delivery .zone)
+read-place q m reference used word message delivery f =
+    ap (λ l. at l 0) (f .message) ∙ getD-set-same (nearMessage q m word) 0 _ 0 (omega (arith, near-symbols q m word (f .readable) .size))
+
+-- a slot that stands before a slot
+earlier : {A : Type 0} (xs : List A) (i : ℕ) (a : A) → getElem? xs (suc i) ≡ some a → (b : A) × (getElem? xs i ≡ some b)
+earlier [] i a e = absurd (Option·none-ne-some a e)
+earlier (x ∷ xs) zero a e = (x, refl)
+earlier (x ∷ xs) (suc i) a e = earlier xs i a e
+
+Known≢Unknown : (d : ℕ) → Known d ≡ Unknown → ⊥
+Known≢Unknown d e = let z : _≡_ {A = ℕ} 0 1 = cc in omega arith
+
+module _ (q m t : ℕ) (hq : 0 < q) (x : SenderSlot) (last : ℕ) (f : SentFrom q m last x) (y : List ℕ) (light : 4 * altered q m t (at (x .word)) (at y) < 2 ^ m) where
+  -- the constant that was sent, turned
+  constant : ℕ
+  constant = ((last + at (x .message) 0) % q + t) % q
+
+  -- such a word reads as the message sent, its constant turned
+  light-near : nearest q m y ≡ some (set (x .message) 0 constant)
+  unfolding constant
+  light-near = nearest-turned q m t _ hq (x .message) y (f .symbols) (subst (λ w. 4 * altered q m t (at w) (at y) < 2 ^ m) (f .word) light)
+
+  light-readable : isReadable q m y ≡ true
+  light-readable = readable q m y _ light-near .0
+
+  light-message : nearMessage q m y ≡ set (x .message) 0 constant
+  light-message = readable q m y _ light-near .1
+
+  light-distance : nearDistance q m y ≡ altered q m t (at (x .word)) (at y)
+  unfolding constant nearDistance
+  light-distance =
+      ap (λ l. distance q m (at l) (at y)) light-message ∙ sym (altered-set q m t _ (x .message) (at y) (f .symbols)) ∙ ap (λ w. altered q m t (at w) (at y)) (sym (f .word))
+
+  light-constant : receiveConstant q m y ≡ constant
+  unfolding receiveConstant
+  light-constant = ap (λ l. at l 0) light-message ∙ getD-set-same (x .message) 0 constant 0 (omega (arith, f .symbols .size))
+
+  light-coefficient : (k : ℕ) → at (nearMessage q m y) (suc k) ≡ at (x .message) (suc k)
+  light-coefficient k = ap (λ l. at l (suc k)) light-message ∙ getD-set-other (x .message) 0 (suc k) constant 0 (λ e. omega (arith, e))
+
+-- the sessions that the openings return
+abbrev pub fresh : ℕ → ℕ → Sender
+fresh q m = record { q = q; m = m; last = 0; used = 0 }
+
+abbrev pub listening : ℕ → ℕ → Receiver
+listening q m = record { q = q; m = m; reference = Missing; used = 0 }
+
+module _ (q m : ℕ) (alphabet : isAlphabet q ≡ true) (order : isOrder m ≡ true) (sends : List Send) where
+  -- the slots of the strap, and the session before slot j
+  abbrev strap : List SenderSlot
+  strap = senderSlots (fresh q m) sends
+
+  abbrev senderBefore : ℕ → Sender
+  senderBefore = before nextSender (fresh q m) strap
+
+  strap-chain : Chain senderCall senderSlot nextSender SentBy (fresh q m) strap (senderAfter (fresh q m) sends)
+  strap-chain = chain senderCall senderSlot nextSender SentBy sender-step (fresh q m) sends
+
+  fresh-at : SenderAt q m 0 (fresh q m)
+  fresh-at = record { isQ = refl; isM = refl; used = refl; sound = sender-sound _ (record { alphabet = alphabet; order = order; last = alphabet-positive q alphabet; used = omega arith; start = refl }) }
+
+  sender-at : (j : ℕ) (x : SenderSlot) → getElem? strap j ≡ some x → SenderAt q m j (senderBefore j)
+  sender-at j x e = rw zero-add at (chain-before senderCall senderSlot nextSender SentBy (SenderAt q m) (sender-keep q m) 0 (fresh q m) strap _ strap-chain fresh-at j x e)
+
+  sender-end : SenderAt q m (length strap) (senderAfter (fresh q m) sends)
+  sender-end = rw zero-add at (chain-end senderCall senderSlot nextSender SentBy (SenderAt q m) (sender-keep q m) 0 (fresh q m) strap _ strap-chain fresh-at)
+
+  strap-sent : (j : ℕ) (x : SenderSlot) → getElem? strap j ≡ some x → SentFrom q m (senderBefore j .last) x
+  strap-sent j x e = sent-from q m j (senderBefore j) x (sender-at j x e) (chain-made senderCall senderSlot nextSender SentBy (fresh q m) strap _ strap-chain j x e)
+
+  -- a slot's constant is the last one before the next slot
+  strap-last : (i : ℕ) (x : SenderSlot) → getElem? strap i ≡ some x → senderBefore (suc i) .last ≡ (senderBefore i .last + at (x .message) 0) % q
+  unfolding nextSender sendConstant
+  strap-last i x e =
+      ap (λ s. s .last) (before-next nextSender (fresh q m) strap i x e) ∙ ap (λ a. (senderBefore i .last + at (x .message) 0) % a) (sender-at i x e .isQ)
+
+module _ (q m : ℕ) (alphabet : isAlphabet q ≡ true) (order : isOrder m ≡ true) (calls : List ReceiverCall) where
+  -- the slots of the launch, and the session before slot j
+  abbrev launch : List ReceiverSlot
+  launch = receiverSlots (listening q m) calls
+
+  abbrev receiverBefore : ℕ → Receiver
+  receiverBefore = before nextSlot (listening q m) launch
+
+  launch-chain : Chain receiverCall receiverSlot nextSlot ReceivedBy (listening q m) launch (receiverAfter (listening q m) calls)
+  launch-chain = chain receiverCall receiverSlot nextSlot ReceivedBy receiver-step (listening q m) calls
+
+  listening-at : ReceiverAt q m 0 (listening q m)
+  unfolding isBelow isMissing
+  listening-at = record { isQ = refl; isM = refl; used = refl; sound = receiver-sound _ (record { alphabet = alphabet; order = order; reference = refl; used = omega arith; start = refl }) }
+
+  receiver-at : (j : ℕ) (z : ReceiverSlot) → getElem? launch j ≡ some z → ReceiverAt q m j (receiverBefore j)
+  receiver-at j z e = rw zero-add at (chain-before receiverCall receiverSlot nextSlot ReceivedBy (ReceiverAt q m) (receiver-keep q m) 0 (listening q m) launch _ launch-chain listening-at j z e)
+
+  receiver-end : ReceiverAt q m (length launch) (receiverAfter (listening q m) calls)
+  receiver-end = rw zero-add at (chain-end receiverCall receiverSlot nextSlot ReceivedBy (ReceiverAt q m) (receiver-keep q m) 0 (listening q m) launch _ launch-chain listening-at)
+
+  launch-heard : (j : ℕ) (z : ReceiverSlot) → getElem? launch j ≡ some z → Heard (receiverBefore j) z
+  launch-heard j z e = chain-made receiverCall receiverSlot nextSlot ReceivedBy (listening q m) launch _ launch-chain j z e .heard
+
+  -- what a slot read answered is what the session before it delivers
+  launch-answer : (j : ℕ) (y message values : List ℕ) → getElem? launch j ≡ some (read y message values) → (delivery : Delivery) × Accepted launch j y message delivery
+  launch-answer j y message values e = (receiveDelivery (receiverBefore j) y, e ∙ ap (λ v. some (read y message v)) (launch-heard j _ e .2))
+
+  launch-read : (j : ℕ) (y message : List ℕ) (delivery : Delivery) → Accepted launch j y message delivery
+      → ReadFrom q m (receiverBefore j .reference) j y message delivery
+  launch-read j y message delivery e = read-from q m j (receiverBefore j) y message delivery (receiver-at j _ e) (launch-heard j _ e)
+
+  launch-doubtful : (j : ℕ) (y : List ℕ) → getElem? launch j ≡ some (doubtful y) → isReadable q m y ≡ false
+  launch-doubtful j y e = subst₂ (λ a c. isReadable a c y ≡ false) (receiver-at j _ e .isQ) (receiver-at j _ e .isM) (launch-heard j _ e)
+
+  -- the reference before a slot is what the slot before left
+  launch-reference : (i : ℕ) (z : ReceiverSlot) → getElem? launch i ≡ some z → receiverBefore (suc i) .reference ≡ referenceAfter q m z
+  unfolding nextSlot nextReceiver
+  launch-reference i z e =
+      ap (λ s. s .reference) (before-next nextSlot (listening q m) launch i z e) ∙ ap₂ (λ a c. referenceAfter a c z) (receiver-at i z e .isQ) (receiver-at i z e .isM)
+
+  -- the zone that a slot says, by the reference that it had
+  launch-zone : (j : ℕ) (y message : List ℕ) (delivery : Delivery) → Accepted launch j y message delivery
+      → (reference : Reference) → receiverBefore j .reference ≡ reference → delivery .zone ≡ zoneFrom q reference (receiveConstant q m y)
+  launch-zone j y message delivery e reference h = launch-read j y message delivery e .zone ∙ ap (λ r. zoneFrom q r (receiveConstant q m y)) h
+
+  zone-after : (i : ℕ) (y message : List ℕ) (delivery : Delivery) → Accepted launch i y message delivery
+      → (y′ message′ : List ℕ) (delivery′ : Delivery) → Accepted launch (suc i) y′ message′ delivery′
+      → delivery′ .zone ≡ Known (subMod q (receiveConstant q m y′) (receiveConstant q m y))
+  unfolding referenceAfter zoneFrom
+  zone-after i y message delivery e y′ message′ delivery′ e′ = launch-zone (suc i) y′ message′ delivery′ e′ _ (launch-reference i _ e)
+
+  unmeasured-zone : (j : ℕ) (y message : List ℕ) (delivery : Delivery) → Accepted launch j y message delivery → delivery .zone ≡ Unknown → Unmeasured launch j
+  unmeasured-zone zero y message delivery e u = first
+  unmeasured-zone (suc i) y message delivery e u = let (z, f) = earlier launch i _ e in go z f
+    where
+      go : (z : ReceiverSlot) → getElem? launch i ≡ some z → Unmeasured launch (suc i)
+      go (read y₀ message₀ values) f =
+          let (delivery₀, g) = launch-answer i y₀ message₀ values f in
+          absurd (Known≢Unknown _ (sym (zone-after i y₀ message₀ delivery₀ g y message delivery e) ∙ u))
+      go (doubtful word) f = afterDoubtful i word f
+      go missed f = afterMissed i f
+
+  zone-unmeasured : (j : ℕ) (y message : List ℕ) (delivery : Delivery) → Accepted launch j y message delivery → Unmeasured launch j → delivery .zone ≡ Unknown
+  unfolding referenceAfter zoneFrom before
+  zone-unmeasured j y message delivery e first = launch-zone 0 y message delivery e Missing refl
+  zone-unmeasured j y message delivery e (afterMissed i f) = launch-zone (suc i) y message delivery e Missing (launch-reference i _ f)
+  zone-unmeasured j y message delivery e (afterDoubtful i word f) = launch-zone (suc i) y message delivery e Missing (launch-reference i _ f)
+
+module _ (q m t : ℕ) (alphabet : isAlphabet q ≡ true) (order : isOrder m ≡ true) (sends : List Send) (calls : List ReceiverCall) where
+  abbrev strap′ : List SenderSlot
+  strap′ = strap q m alphabet order sends
+
+  abbrev launch′ : List ReceiverSlot
+  launch′ = launch q m alphabet order calls
+
+  -- the constant before slot j of the strap
+  abbrev lastAt : ℕ → ℕ
+  lastAt j = senderBefore q m alphabet order sends j .last
+
+  module _ (j : ℕ) (x : SenderSlot) (y : List ℕ) (such : Such q m t strap′ launch′ j x y) where
+    such-sent : SentFrom q m (lastAt j) x
+    such-sent = strap-sent q m alphabet order sends j x (such .sent)
+
+    such-read : (message : List ℕ) × (delivery : Delivery) × Accepted launch′ j y message delivery
+    unfolding wordOf
+    such-read = go (getElem? launch′ j) refl (such .received)
+      where
+        go : (o : Option ReceiverSlot) → getElem? launch′ j ≡ o → wordOf o ≡ some y → (message : List ℕ) × (delivery : Delivery) × Accepted launch′ j y message delivery
+        go none e w = absurd (Option·none-ne-some y w)
+        go (some (read word message values)) e w =
+            let h : word ≡ y = Option·some-injective word y w in
+            let (delivery, f) = launch-answer q m alphabet order calls j y message values (e ∙ ap (λ l. some (read l message values)) h) in
+            (message, delivery, f)
+        go (some (doubtful word)) e w =
+            let no : isReadable q m y ≡ false = ap (isReadable q m) (sym (Option·some-injective word y w)) ∙ launch-doubtful q m alphabet order calls j word e in
+            let yes : isReadable q m y ≡ true = light-readable q m t (alphabet-positive q alphabet) x (lastAt j) such-sent y (such .light) in
+            let n : _≡_ {A = ℕ} 0 1 = cc in
+            absurd (omega arith)
+        go (some missed) e w = absurd (Option·none-ne-some y w)
+
+    such-constant : receiveConstant q m y ≡ ((lastAt j + at (x .message) 0) % q + t) % q
+    unfolding constant
+    such-constant = light-constant q m t (alphabet-positive q alphabet) x (lastAt j) such-sent y (such .light)
+
+    module _ (message : List ℕ) (delivery : Delivery) (read : Accepted launch′ j y message delivery) where
+      such-wrong : delivery .wrong ≡ altered q m t (at (x .word)) (at y)
+      such-wrong =
+          launch-read q m alphabet order calls j y message delivery read .wrong
+          ∙ light-distance q m t (alphabet-positive q alphabet) x (lastAt j) such-sent y (such .light)
+
+      such-coefficient : (k : ℕ) → k < m → at message (suc k) ≡ at (x .message) (suc k)
+      such-coefficient k l =
+          ap (λ b. at b (suc k)) (launch-read q m alphabet order calls j y message delivery read .message)
+          ∙ getD-set-other (nearMessage q m y) 0 (suc k) _ 0 (λ e. omega (arith, e))
+          ∙ light-coefficient q m t (alphabet-positive q alphabet) x (lastAt j) such-sent y (such .light) k
+
+  such-place : (i : ℕ) (x : SenderSlot) (y : List ℕ) → Such q m t strap′ launch′ i x y
+      → (x′ : SenderSlot) (y′ : List ℕ) → Such q m t strap′ launch′ (suc i) x′ y′ → (message : List ℕ) (delivery : Delivery) → Accepted launch′ (suc i) y′ message delivery
+      → at message 0 ≡ at (x′ .message) 0
+  unfolding zoneSymbol
+  such-place i x y such x′ y′ such′ message delivery e =
+      let (message₀, delivery₀, e₀) = such-read i x y such in
+      let h = alphabet-positive q alphabet in
+      let d = at (x′ .message) 0 in
+      let c = (lastAt i + at (x .message) 0) % q in
+      let f = such-sent (suc i) x′ y′ such′ in
+      let zone : delivery .zone ≡ Known (subMod q (receiveConstant q m y′) (receiveConstant q m y)) =
+      zone-after q m alphabet order calls i y message₀ delivery₀ e₀ y′ message delivery e in
+      let new : receiveConstant q m y′ ≡ ((c + d) % q + t) % q =
+      such-constant (suc i) x′ y′ such′ ∙ ap (λ l. ((l + d) % q + t) % q) (strap-last q m alphabet order sends i x (such .sent)) in
+      read-place q m _ (suc i) y′ message delivery (launch-read q m alphabet order calls (suc i) y′ message delivery e)
+      ∙ ap zoneSymbol zone
+      ∙ ap₂ (subMod q) new (such-constant i x y such)
+      ∙ subMod-turned q c d t h (f .symbols .below 0 (omega arith))
+
+  from-openings : WholeSessions q m t strap′ launch′ (senderAfter (fresh q m) sends) (receiverAfter (listening q m) calls)
+  from-openings =
+      let s = sender-end q m alphabet order sends in
+      let r = receiver-end q m alphabet order calls in
+      record {
+        accepted = such-read;
+        wrong = such-wrong;
+        coefficients = such-coefficient;
+        place0 = such-place;
+        noZone = λ j y message delivery e. (unmeasured-zone q m alphabet order calls j y message delivery e, zone-unmeasured q m alphabet order calls j y message delivery e);
+        zone = zone-after q m alphabet order calls;
+        zonePlace = λ j y message delivery e. read-place q m _ j y message delivery (launch-read q m alphabet order calls j y message delivery e);
+        answers = launch-answer q m alphabet order calls;
+        time = λ j y message delivery e. launch-read q m alphabet order calls j y message delivery e .time;
+        apart = λ a b ha hb k l d u v y hy. never-both q m (alphabet-positive q alphabet) a b ha hb k l d u v (at y);
+        senderSound = s .sound;
+        receiverSound = r .sound;
+        senderCode = (s .isQ, s .isM);
+        receiverCode = (r .isQ, r .isM);
+        senderUsed = s .used;
+        receiverUsed = r .used;
+        sendSound = send-not-3 _ (s .sound);
+        receiveSound = receive-not-3 _ (r .sound);
+        missSound = miss-not-3 _ (r .sound);
+        sendFull = λ message word. subst (λ n. (sendRefusal (senderAfter (fresh q m) sends) message word ≡ 4) ↔ (n ≡ slots)) (s .used) (send-full _ (s .sound) message word);
+        receiveFull = λ message word. subst (λ n. (receiveRefusal (receiverAfter (listening q m) calls) message word ≡ 4) ↔ (n ≡ slots)) (r .used) (receive-full _ (r .sound) message word);
+        missFull = subst (λ n. (missRefusal (receiverAfter (listening q m) calls) ≡ 4) ↔ (n ≡ slots)) (r .used) (miss-full _ (r .sound));
+      }
+
+-- WHOLE SESSIONS: for every q and m that the openings accept, every turn t, and every two lists of calls, refused ones anywhere,
+-- each list started from the session that its opening returned
+pub whole-sessions : (q m : ℕ) (sender : Sender) (receiver : Receiver) → openSender q m ≡ some sender → openReceiver q m ≡ some receiver
+    → (t : ℕ) → t < q → (sends : List Send) (calls : List ReceiverCall)
+    → WholeSessions q m t (senderSlots sender sends) (receiverSlots receiver calls) (senderAfter sender sends) (receiverAfter receiver calls)
+whole-sessions q m sender receiver a b t l sends calls =
+    let (alphabet, order, e) = sender-opened q m sender a in
+    let (_, _, f) = receiver-opened q m receiver b in
+    subst₂ (λ s r. WholeSessions q m t (senderSlots s sends) (receiverSlots r calls) (senderAfter s sends) (receiverAfter r calls)) e f
+    (from-openings q m t alphabet order sends calls)

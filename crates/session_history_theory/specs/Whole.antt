@@ -1,0 +1,96 @@
+-- DEMAND 3 (document 01: Whole sessions): what holds of two whole lists of calls, sentence by sentence.
+use Prim.Native.Nat.{ℕ, suc, _*_, _^_, _<_}
+use mathlib.Core.Path.{_≡_}
+use mathlib.Core.Logic.{_≢_, _↔_}
+use mathlib.Core.Bool.{true}
+use mathlib.Core.List.{List}
+use mathlib.Core.Option.{Option, none, some}
+use lib.ListN.{length, getElem?}
+use Rattle.code_theory.specs.Sum.{at}
+use Rattle.code_theory.specs.Modular.{subMod}
+use Rattle.code_theory.specs.Code.{codeword, Symbols}
+use Rattle.code_theory.specs.Turn.{altered}
+use Rattle.session.specs.declared.Sender.{Sender}
+use Rattle.session.specs.declared.Receiver.{Receiver}
+use Rattle.session.specs.declared.Delivery.{Delivery}
+use Rattle.session.specs.declared.Zone.the-variants.{Known, Unknown}
+use Rattle.session.specs.Slot.{slots, slotTime}
+use Rattle.session.specs.Sending.{soundSender, sendRefusal}
+use Rattle.session.specs.Receiving.{soundReceiver, receiveRefusal, missRefusal, receiveConstant, zoneSymbol, deliveryValues}
+use Rattle.session_history_theory.specs.Calls.{SenderSlot, ReceiverSlot, read, doubtful, missed}
+
+-- the word that a slot received; a missed slot has none, nor has one past the end
+unfoldable pub wordOf : Option ReceiverSlot → Option (List ℕ)
+wordOf none = none
+wordOf (some (read word message values)) = some word
+wordOf (some (doubtful word)) = some word
+wordOf (some missed) = none
+
+-- "The claim covers each j that both lists have. .. A received word's altered symbols are the places where it differs from the
+-- symbol that slot's send wrote there plus t, modulo q; the claim is for 4 × altered < n."
+-- Slot j of the strap is x, and slot j of the launch received such a word y.
+pub record Such (q m t : ℕ) (strap : List SenderSlot) (launch : List ReceiverSlot) (j : ℕ) (x : SenderSlot) (y : List ℕ) : Type 0 where
+  pub sent : getElem? strap j ≡ some x
+  pub received : wordOf (getElem? launch j) ≡ some y
+  pub light : 4 * altered q m t (at (x .word)) (at y) < 2 ^ m
+
+-- Slot j of the launch is a receive of y that was accepted: it left this message slice, and answered the zone, if any, wrong, margin
+-- and time of this delivery.
+abbrev pub Accepted : List ReceiverSlot → ℕ → List ℕ → List ℕ → Delivery → Type 0
+Accepted launch j y message delivery = getElem? launch j ≡ some (read y message (deliveryValues delivery))
+
+-- "j is 0 or slot j − 1 was missed or doubtful"
+pub data Unmeasured (launch : List ReceiverSlot) : ℕ → Type 0 where
+  first : Unmeasured launch 0
+  afterMissed : (i : ℕ) → getElem? launch i ≡ some missed → Unmeasured launch (suc i)
+  afterDoubtful : (i : ℕ) (word : List ℕ) → getElem? launch i ≡ some (doubtful word) → Unmeasured launch (suc i)
+
+-- The slots of the strap and of the launch, under the turn t, and the sessions that the two lists end in.
+pub record WholeSessions (q m t : ℕ) (strap : List SenderSlot) (launch : List ReceiverSlot) (sender : Sender) (receiver : Receiver) : Type 0 where
+  -- "Such a receive is accepted,
+  pub accepted : (j : ℕ) (x : SenderSlot) (y : List ℕ) → Such q m t strap launch j x y → (message : List ℕ) × (delivery : Delivery) × Accepted launch j y message delivery
+  -- wrong equals altered,
+  pub wrong : (j : ℕ) (x : SenderSlot) (y : List ℕ) → Such q m t strap launch j x y → (message : List ℕ) (delivery : Delivery) → Accepted launch j y message delivery
+      → delivery .wrong ≡ altered q m t (at (x .word)) (at y)
+  -- and places 1 to m of the message buffer equal the sent message's,
+  pub coefficients : (j : ℕ) (x : SenderSlot) (y : List ℕ) → Such q m t strap launch j x y → (message : List ℕ) (delivery : Delivery) → Accepted launch j y message delivery
+      → (k : ℕ) → k < m → at message (suc k) ≡ at (x .message) (suc k)
+  -- and place 0 too where slot j − 1 was also such a word."
+  pub place0 : (i : ℕ) (x : SenderSlot) (y : List ℕ) → Such q m t strap launch i x y
+      → (x′ : SenderSlot) (y′ : List ℕ) → Such q m t strap launch (suc i) x′ y′ → (message : List ℕ) (delivery : Delivery) → Accepted launch (suc i) y′ message delivery
+      → at message 0 ≡ at (x′ .message) 0
+  -- "An accepted receive says there is no zone exactly where j is 0 or slot j − 1 was missed or doubtful;
+  pub noZone : (j : ℕ) (y message : List ℕ) (delivery : Delivery) → Accepted launch j y message delivery → (delivery .zone ≡ Unknown) ↔ Unmeasured launch j
+  -- after a slot read in spite of heavier damage, the zone is the one that Receiving gives."
+  -- After every slot read: the word's constant minus the one before, which became the reference.
+  pub zone : (i : ℕ) (y message : List ℕ) (delivery : Delivery) → Accepted launch i y message delivery
+      → (y′ message′ : List ℕ) (delivery′ : Delivery) → Accepted launch (suc i) y′ message′ delivery′
+      → delivery′ .zone ≡ Known (subMod q (receiveConstant q m y′) (receiveConstant q m y))
+  -- Receiving: the zone stands in place 0 of the message buffer, and 0 where there is none.
+  pub zonePlace : (j : ℕ) (y message : List ℕ) (delivery : Delivery) → Accepted launch j y message delivery → at message 0 ≡ zoneSymbol (delivery .zone)
+  -- Receiving: "The answer carries .. time, slot number × 1,024 in ms. A call's slot number is the count of slots used before it."
+  pub time : (j : ℕ) (y message : List ℕ) (delivery : Delivery) → Accepted launch j y message delivery → delivery .time ≡ slotTime j
+  -- Whatever a slot read answered are the values of a delivery, so the sentences above speak of every accepted receive.
+  pub answers : (j : ℕ) (y message values : List ℕ) → getElem? launch j ≡ some (read y message values) → (delivery : Delivery) × Accepted launch j y message delivery
+  -- "Last, no n symbols below q differ in fewer than n/4 places from each of two words whose messages have different coefficients,
+  -- each turned by any number of its own."
+  pub apart : (a b : List ℕ) → Symbols q (suc m) a → Symbols q (suc m) b → (k : ℕ) → k < m → at a (suc k) ≢ at b (suc k)
+      → (u v : ℕ) (y : List ℕ) → Symbols q (2 ^ m) y
+      → 4 * altered q m u (at (codeword q m a)) (at y) < 2 ^ m → 4 * altered q m v (at (codeword q m b)) (at y) < 2 ^ m → ⊥
+  -- A refused call makes no slot; and no session refuses its way around the claim. What a list reaches from its opening is sound,
+  pub senderSound : soundSender sender ≡ true
+  pub receiverSound : soundReceiver receiver ≡ true
+  -- for the q and m that it was opened for,
+  pub senderCode : (sender .q ≡ q) × (sender .m ≡ m)
+  pub receiverCode : (receiver .q ≡ q) × (receiver .m ≡ m)
+  -- with as many slots used as the list has slots:
+  pub senderUsed : sender .used ≡ length strap
+  pub receiverUsed : receiver .used ≡ length launch
+  -- so question 3 never refuses the call after the list,
+  pub sendSound : (message word : List ℕ) → sendRefusal sender message word ≢ 3
+  pub receiveSound : (message word : List ℕ) → receiveRefusal receiver message word ≢ 3
+  pub missSound : missRefusal receiver ≢ 3
+  -- and question 4 refuses it exactly after 65,536 slots.
+  pub sendFull : (message word : List ℕ) → (sendRefusal sender message word ≡ 4) ↔ (length strap ≡ slots)
+  pub receiveFull : (message word : List ℕ) → (receiveRefusal receiver message word ≡ 4) ↔ (length launch ≡ slots)
+  pub missFull : (missRefusal receiver ≡ 4) ↔ (length launch ≡ slots)

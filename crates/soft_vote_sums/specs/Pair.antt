@@ -1,0 +1,12 @@
+-- Two floats as one complex number.
+use lib.Ieee.{Float}
+use Rattle.soft_theory.specs.Complex.{Complex}
+use Rattle.soft_vote_sums.specs.declared.Sums.{Sums}
+
+-- both sums
+unfoldable pub pair : Sums → Complex Float
+pair s = record { re = s .re; im = s .im }
+
+-- two parts
+abbrev pub complex : Float → Float → Complex Float
+complex x y = record { re = x; im = y }

@@ -1,0 +1,14 @@
+-- `lane_step` meets its contract: nothing is shifted out.
+use Rattle.swar_lanes.proofs.LaneLaws.{lane-step-code}
+use borrow.Author.Needs.{needs}
+use Rattle.swar_lanes.proofs.lane_step.Statement.{statement}
+use Rattle.swar_lanes.proofs.lane_step.Tie as tie
+
+shl-result : tie.Need-shl-result
+shl-result c = search needs
+
+returns : tie.Need-returns
+returns c = lane-step-code (c .args .l) (c .pre)
+
+pub lane-step-spec : {M : Type 1} → statement M
+lane-step-spec = tie.close (tie.spec shl-result returns)

@@ -1,0 +1,72 @@
+// The lines of the session list's input, q = 4, m = 4.
+ghost use mathlib.Core.Path.{_≡_};
+ghost use mathlib.Core.Bool.{true};
+ghost use lib.ListN.{length};
+ghost use Rattle.text_lines.specs.Line.{isDigit, isDigits, isSlot, wordOf, readLine, lineOf};
+ghost use Rattle.text_lines.specs.Ending.{lineLength};
+
+// What a line is.
+pub enum Kind {
+    Slot,
+    Miss,
+    Bad,
+}
+
+// Whether the byte is a digit 0 to 3.
+fn is_digit(b: u8) -> bool
+    ensures { λ r. ⌜ r ≡ isDigit b ⌝ }
+{
+    b'0' <= b && b <= b'3'
+}
+
+// Whether every byte is a digit 0 to 3. With no early answer the compiler asks many bytes at once.
+pub fn is_digits(line: &[u8]) -> bool
+    ensures { λ r. ⌜ r ≡ isDigits (now (line .entry)) ⌝ }
+{
+    let mut all = true;
+    for i in 0..line.len() {
+        all = all & is_digit(line[i]);
+    }
+    all
+}
+
+// How many bytes stand before the first newline: all where there is none.
+pub fn line_length(bytes: &[u8]) -> usize
+    ensures { λ r. ⌜ r ≡ lineLength (now (bytes .entry)) ⌝ }
+{
+    for i in 0..bytes.len() {
+        if bytes[i] == b'\n' {
+            return i;
+        }
+    }
+    bytes.len()
+}
+
+// What the line is: 16 digits 0 to 3, `-`, or anything else.
+pub fn kind_of(line: &[u8]) -> Kind
+    ensures { λ r. ⌜ lineOf r (now (line .entry)) ≡ readLine (now (line .entry)) ⌝ }
+{
+    if line.len() == 16 {
+        if is_digits(line) {
+            return Kind::Slot;
+        }
+        return Kind::Bad;
+    }
+    if line.len() == 1 {
+        if line[0] == b'-' {
+            return Kind::Miss;
+        }
+        return Kind::Bad;
+    }
+    Kind::Bad
+}
+
+// Fills the word with the symbols of a slot's digits.
+pub fn fill_word(line: &[u8], word: &mut [u8])
+    requires { ⌜ (isSlot (now line) ≡ true) × (length (now word) ≡ 16) ⌝ }
+    ensures { λ r. ⌜ now (word .exit) ≡ wordOf (now (line .entry)) ⌝ }
+{
+    for i in 0..16 {
+        word[i] = line[i] - b'0';
+    }
+}
