@@ -10,7 +10,7 @@ use lib.ListN.{length}
 use Rattle.code_theory.specs.Nearest.{isReadable}
 use Rattle.code_theory.specs.Question.{ask, isAlphabet, isOrder, isMessageSize, isWordSize, allBelow, accepted, refused}
 use Rattle.code_theory.proofs.QuestionLaws.{ask-yes, ask-never, ask-later, alphabet, alphabet-bounds, order-bounds, message-size, word-size, symbols, answer-yes, answer-no}
-use Rattle.decode_long_counters.specs.Received.{Received}
+use Rattle.code_theory.specs.Word.{WellFormed}
 use Rattle.codec.specs.Codec.{encodeRefusal, encodeAnswer, decodeRefusal}
 use Rattle.codec.specs.Asked.{sizeRefusal, wordRefusal}
 
@@ -72,7 +72,7 @@ module _ (q m : ℕ) (s w : List ℕ) (n : ℕ) (e : n ≡ encodeRefusal q m s w
 -- a word that Read goes on to read, with its message slice
 pub record Readable (q m : ℕ) (s w : List ℕ) : Type 0 where
   pub sized : Sized q m s
-  pub received : Received q m w
+  pub received : WellFormed q m w
 
 pub readable : (q m : ℕ) (s w : List ℕ) → wordRefusal q m s w ≡ 0 → Readable q m s w
 readable q m s w e = go (ℕ-discrete (sizeRefusal q m s) 0)

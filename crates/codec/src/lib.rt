@@ -57,10 +57,10 @@ fn word_refusal(q: u32, m: u32, message: &[u8], word: &[u8]) -> u32
     if number != 0 {
         return number;
     }
-    if word.len() != code_questions::pow2(m) {
+    if word.len() != code_arith::pow2(m) {
         return 7;
     }
-    if !code_questions::word_below(q, m, word) {
+    if !swar_questions::word_below(q, m, word) {
         return 8;
     }
     0

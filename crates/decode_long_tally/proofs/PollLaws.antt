@@ -7,19 +7,19 @@ use native.Mathlib.Nat.{div-one, pow-le-pow-right, le-of-suc-le-suc, add-assoc}
 use lib.Bits.{bitAnd, and-mask, and-mod, and-le-l, and-le-r}
 use lib.Pow.{shr-shr, pow-mono}
 use Rattle.code_theory.specs.Sum.{sum, at}
-use Rattle.code_theory.specs.Index.{ifClear}
+use Rattle.code_theory.specs.Index.{ifClear, nthClear}
 use Rattle.code_theory.specs.Modular.{subMod, same}
 use Rattle.code_theory.specs.Vote.{count, vote, votes}
 use Rattle.code_theory.specs.Question.{isAlphabet}
 use mathlib.Core.Bool.{true}
 use Rattle.code_theory.proofs.SumLaws.{sum-ext, sum-next, sum-bound}
-use Rattle.code_theory.proofs.IndexLaws.{nthClear, nth-partner-lt}
+use Rattle.code_theory.proofs.IndexLaws.{nth-partner-lt}
 use Rattle.code_theory.proofs.ModularLaws.{subMod-lt}
 use Rattle.code_theory.proofs.QuestionLaws.{alphabet, alphabet-bounds}
 use Rattle.swar_theory.specs.Digit as digits
 use Rattle.swar_theory.proofs.DigitLaws.{digit-even, digit-odd, digit-down}
-use Rattle.decode_long_counters.specs.Digits.{digit}
-use Rattle.decode_long_counters.proofs.DigitLaws.{units-digit}
+use Rattle.decode_long_tally.specs.Digits.{digit}
+use Rattle.decode_long_tally.proofs.DigitLaws.{units-digit}
 use Rattle.swar_lanes.specs.Lane.{offset, Lanes, Below, Packed}
 use Rattle.swar_lanes.specs.Ballot.{spot, Reach, BallotOf}
 use Rattle.swar_lanes.proofs.SpotLaws.{block-sum, offset-sum, spot-sum}

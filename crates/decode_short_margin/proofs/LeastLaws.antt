@@ -9,7 +9,7 @@ use Rattle.code_theory.specs.Question.{isAlphabet}
 use Rattle.code_theory.proofs.QuestionLaws.{alphabet-positive}
 use Rattle.code_theory.proofs.MarginLaws.{least-ext}
 use Rattle.code_theory.proofs.ErrorLaws.{sumFrom1, maxFrom1, sumFrom1-ext, maxFrom1-ext, lead-zero}
-use Rattle.decode_long_counters.proofs.CountLaws.{bounds}
+use Rattle.code_theory.proofs.WordLaws.{bounds}
 use Rattle.swar_lanes.specs.Lane.{Below}
 use Rattle.swar_lanes.proofs.LaneLaws.{none-below}
 use Rattle.decode_short_lead.specs.Lead.{cast}

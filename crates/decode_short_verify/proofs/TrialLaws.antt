@@ -24,8 +24,8 @@ use Rattle.code_theory.proofs.ModularLaws.{subMod-lt}
 use Rattle.code_theory.proofs.ErrorLaws.{error, error-distance}
 use Rattle.swar_theory.specs.Digit.{digit}
 use Rattle.swar_lanes.specs.Lane.{offset, laneOf, Lanes, Below, Held, Low}
-use Rattle.decode_long_counters.specs.Received.{Received}
-use Rattle.decode_long_counters.proofs.CountLaws.{bounds}
+use Rattle.code_theory.specs.Word.{WellFormed}
+use Rattle.code_theory.proofs.WordLaws.{bounds}
 use Rattle.decode_short_lead.specs.Lead.{Mask}
 use Rattle.decode_short_errors.specs.Places.{plain, zeroPlaces}
 use Rattle.decode_short_errors.proofs.PlaceLaws.{mask-is, zeros-le}
@@ -122,24 +122,24 @@ wrong-16 e r y z f g h =
     (omega (arith, a, b, c, f, g, h), omega (arith, h))
 
 -- EVERY SYMBOL of a received word is below q, and there is nothing past its end
-pub word-below : (q m : ℕ) (w : List ℕ) → Received q m w → (i : ℕ) → at w i < q
+pub word-below : (q m : ℕ) (w : List ℕ) → WellFormed q m w → (i : ℕ) → at w i < q
 word-below q m w r i = go (decLt i (2 ^ m))
   where
     go : Dec (i < 2 ^ m) → at w i < q
     go (yes l) = r .symbols .below i l
     go (no l) = omega (arith, past w i (omega (arith, r .symbols .size, l)), bounds q (r .alphabet))
 
-pub held-below : (q m : ℕ) (w : List ℕ) (b x : ℕ) → Received q m w → Held w b x → Below q x
+pub held-below : (q m : ℕ) (w : List ℕ) (b x : ℕ) → WellFormed q m w → Held w b x → Below q x
 held-below q m w b x r h t k = omega (arith, h t k, word-below q m w r (b + offset t))
 
-pub word-low : (q m : ℕ) (w : List ℕ) → Received q m w → Low w
+pub word-low : (q m : ℕ) (w : List ℕ) → WellFormed q m w → Low w
 word-low q m w r i l = omega (arith, word-below q m w r i, bounds q (r .alphabet))
 
 pub below-eight : (q x : ℕ) → isAlphabet q ≡ true → Below q x → Below 8 x
 below-eight q x a h t k = omega (arith, h t k, bounds q a)
 
 -- A TRIAL of one number: the candidate d of a word of order m up to 4
-module _ (q m : ℕ) (w : List ℕ) (r : Received q m w) (h : m ≤ 4) (x a c0 c1 c2 c3 c4 e : ℕ) (hx : Held w 0 x) (l : Left q x a c0 c1 c2 c3 e)
+module _ (q m : ℕ) (w : List ℕ) (r : WellFormed q m w) (h : m ≤ 4) (x a c0 c1 c2 c3 c4 e : ℕ) (hx : Held w 0 x) (l : Left q x a c0 c1 c2 c3 e)
     (g : GuessOf q m x (message a c0 c1 c2 c3 c4)) where
   some : 0 < q
   some = omega (arith, bounds q (r .alphabet))
@@ -164,7 +164,7 @@ module _ (q m : ℕ) (w : List ℕ) (r : Received q m w) (h : m ≤ 4) (x a c0 c
   }
 
 -- A TRIAL of two numbers
-module _ (q : ℕ) (w : List ℕ) (r : Received q 5 w) (x y a c0 c1 c2 c3 c4 b e f : ℕ) (hx : Held w 0 x) (hy : Held w 16 y) (eb : b ≡ (a + c4) % q)
+module _ (q : ℕ) (w : List ℕ) (r : WellFormed q 5 w) (x y a c0 c1 c2 c3 c4 b e f : ℕ) (hx : Held w 0 x) (hy : Held w 16 y) (eb : b ≡ (a + c4) % q)
     (l : Left q x a c0 c1 c2 c3 e) (k : Left q y b c0 c1 c2 c3 f) (gs : GuessOfBoth q 5 x y (message a c0 c1 c2 c3 c4)) where
   enough : 0 < q
   enough = omega (arith, bounds q (r .alphabet))

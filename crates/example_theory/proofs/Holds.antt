@@ -10,9 +10,9 @@ use Rattle.code_theory.specs.Margin.{mostOther, lead, least, margin}
 use Rattle.code_theory.specs.Nearest.{prefixed, messages, firstOr, find, isNear, nearest, isReadable, nearMessage, nearDistance, nearMargin}
 use Rattle.code_theory.specs.Question.{ask, isAlphabet, isOrder, isMessageSize, isWordSize, allBelow, answer, after}
 use Rattle.codec.specs.Codec.{encodeRefusal, encodeAnswer, encodeWord, decodeRefusal, decodeAnswer, decodeMessage}
-use Rattle.session.specs.Slot.{slotTime}
-use Rattle.session.specs.Sending.{soundSender, sendRefusal, sendAnswer, sendConstant, sendSession}
-use Rattle.session.specs.Receiving.{isBelow, isMissing, soundReceiver, receiveRefusal, missRefusal, receiveConstant, zoneFrom, receiveDelivery, zoneValues, deliveryValues, receiveAnswer, nextReceiver, afterReceive, receiveSession, missAnswer, missSession}
+use Rattle.session_slot.specs.Slot.{slotTime}
+use Rattle.session_sender.specs.Sending.{soundSender, sendRefusal, sendAnswer, sendConstant, sendSession}
+use Rattle.session_receiver.specs.Receiving.{isBelow, isMissing, soundReceiver, receiveRefusal, missRefusal, receiveConstant, zoneFrom, receiveDelivery, zoneValues, deliveryValues, receiveAnswer, nextReceiver, afterReceive, receiveSession, missAnswer, missSession}
 use Rattle.strap.specs.Strap.{digit, strapMessage, isZone, packRefusal, packAnswer, packMessage}
 use Rattle.soft_theory.specs.Decision.{magnitude, isClear, decideBy, decide}
 use Rattle.example_theory.specs.Case.{votesInOrder, Holds, AllHold}

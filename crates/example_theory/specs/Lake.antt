@@ -3,10 +3,10 @@ use Prim.Native.Nat.{ℕ}
 use mathlib.Core.List.{List, [], _∷_}
 use lib.IntN.{ℤ, pos, negsuc}
 use Rattle.code_theory.specs.Question.{accepted, refused}
-use Rattle.session.specs.declared.Sender.{Sender}
-use Rattle.session.specs.declared.Receiver.{Receiver}
-use Rattle.session.specs.declared.Reference.{Reference}
-use Rattle.session.specs.declared.Reference.the-variants.{Held, Missing}
+use Rattle.session_sender.specs.declared.Sender.{Sender}
+use Rattle.session_receiver.specs.declared.Receiver.{Receiver}
+use Rattle.session_reference.specs.declared.Reference.{Reference}
+use Rattle.session_reference.specs.declared.Reference.the-variants.{Held, Missing}
 use Rattle.soft_theory.specs.Complex.{Complex}
 use Rattle.soft_theory.specs.Decision.{sure, unsure}
 use Rattle.example_theory.specs.Case.{Case, writes, reads, doubtful, casts, packs, decides, sends, receives, misses, both}

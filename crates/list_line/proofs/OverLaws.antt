@@ -11,11 +11,11 @@ use Rattle.code_theory.specs.Sum.{at}
 use Rattle.code_theory.specs.Nearest.{isReadable}
 use Rattle.code_theory.specs.Question.{ask, isAlphabet, isOrder, isMessageSize, isWordSize, allBelow, after}
 use Rattle.code_theory.proofs.QuestionLaws.{message-yes, word-yes, below-all}
-use Rattle.session.specs.Slot.{slots}
-use Rattle.session.specs.Receiving.{isBelow, isMissing, soundReceiver, receiveRefusal, receiveConstant, receiveSession, afterReceive, nextReceiver, missRefusal, missSession}
-use Rattle.session.specs.declared.Reference.the-variants.{Held, Missing}
-use Rattle.session.specs.declared.Receiver.{Receiver}
-use Rattle.session.proofs.SoundLaws.{receive-yes, receive-doubtful, miss-yes, constant-below, receiver-next}
+use Rattle.session_slot.specs.Slot.{slots}
+use Rattle.session_receiver.specs.Receiving.{isBelow, isMissing, soundReceiver, receiveRefusal, receiveConstant, receiveSession, afterReceive, nextReceiver, missRefusal, missSession}
+use Rattle.session_reference.specs.declared.Reference.the-variants.{Held, Missing}
+use Rattle.session_receiver.specs.declared.Receiver.{Receiver}
+use Rattle.session_receiver.proofs.SoundLaws.{receive-yes, receive-doubtful, miss-yes, constant-below, receiver-next}
 use Rattle.text_lines.specs.Line.{Line, slot, miss, bad, isSlot, wordOf}
 use Rattle.text_lines.proofs.LineLaws.{slot-size, slot-digits, digit-at, word-at, word-length}
 use Rattle.list_line.specs.Listing.{blank, lineSession, lineEnds, opened}

@@ -22,21 +22,21 @@ use Rattle.strap.specs.declared.Unpacked.{Unpacked}
 use Rattle.strap.specs.declared.Unpacked.the-variants as U
 use Rattle.text_buffer.specs.Text.{put}
 use Rattle.text_buffer.proofs.PutLaws.{Written, written-as}
-use Rattle.session.specs.Receiving.{receiveRefusal, receiveConstant, zoneFrom, zoneSymbol, zoneValues, receiveDelivery, deliveryValues, receiveAnswer, receiveMessage, receiveSession, afterReceive, nextReceiver, received, receivedSession, missRefusal, missAnswer, missSession, missed, missedSession}
-use Rattle.session.specs.declared.Reference.{Reference}
-use Rattle.session.specs.declared.Reference.the-variants.{Held, Missing}
-use Rattle.session.specs.declared.Zone.{Zone}
-use Rattle.session.specs.declared.Zone.the-variants.{Known, Unknown}
-use Rattle.session.specs.declared.Delivery.{Delivery}
-use Rattle.session.specs.declared.Receiver.{Receiver}
-use Rattle.session.specs.declared.Received.{Received}
-use Rattle.session.specs.declared.Received.the-variants as R
-use Rattle.session.specs.declared.Missed.{Missed}
-use Rattle.session.specs.declared.Missed.the-variants as M
-use Rattle.session.specs.Slot.{slots, slotTime}
+use Rattle.session_receiver.specs.Receiving.{receiveRefusal, receiveConstant, zoneFrom, zoneSymbol, zoneValues, receiveDelivery, deliveryValues, receiveAnswer, receiveMessage, receiveSession, afterReceive, nextReceiver, received, receivedSession, missRefusal, missAnswer, missSession, missed, missedSession}
+use Rattle.session_reference.specs.declared.Reference.{Reference}
+use Rattle.session_reference.specs.declared.Reference.the-variants.{Held, Missing}
+use Rattle.session_reference.specs.declared.Zone.{Zone}
+use Rattle.session_reference.specs.declared.Zone.the-variants.{Known, Unknown}
+use Rattle.session_receiver.specs.declared.Delivery.{Delivery}
+use Rattle.session_receiver.specs.declared.Receiver.{Receiver}
+use Rattle.session_receiver.specs.declared.Received.{Received}
+use Rattle.session_receiver.specs.declared.Received.the-variants as R
+use Rattle.session_receiver.specs.declared.Missed.{Missed}
+use Rattle.session_receiver.specs.declared.Missed.the-variants as M
+use Rattle.session_slot.specs.Slot.{slots, slotTime}
 use Rattle.text_lines.specs.Line.{Line, slot, miss, bad}
 use Rattle.list_line.specs.Listing.{readingText, doubtfulText, missedText, overText, badText, blank, deliveryText, lineText, lineSession, lineEnds}
-use Rattle.session.proofs.SoundLaws.{ReceiveYes, receive-yes, receive-doubtful, miss-yes, near-symbols}
+use Rattle.session_receiver.proofs.SoundLaws.{ReceiveYes, receive-yes, receive-doubtful, miss-yes, near-symbols}
 
 -- what Receive changes, by the number
 pub after-read : {A : Type 0} (n : ℕ) (x y z : A) → n ≡ 0 → afterReceive n x y z ≡ x

@@ -11,8 +11,8 @@ use lib.ListN.{length, take, set, length-append, length-take, length-drop}
 use lib.Seq.{take-suc-set, length-take-le}
 use Rattle.code_theory.specs.Question.{after}
 use Rattle.text_buffer.specs.Text.{put}
-use Rattle.session.specs.Receiving.{receiveSession, afterReceive, nextReceiver, missSession}
-use Rattle.session.specs.declared.Receiver.{Receiver}
+use Rattle.session_receiver.specs.Receiving.{receiveSession, afterReceive, nextReceiver, missSession}
+use Rattle.session_receiver.specs.declared.Receiver.{Receiver}
 use Rattle.text_lines.specs.Line.{Line, slot, miss, bad, readLine}
 use Rattle.list_line.specs.Listing.{lineText, lineSession}
 use Rattle.list_stream.specs.Stream.{Progress, keep, ended, step, stepText, lastText, endText}

@@ -13,7 +13,7 @@ use lib.Seq.{drop-cons, length-take-le, getD-take, take-suc, take-all, take-add}
 use Rattle.code_theory.specs.Sum.{at}
 use Rattle.code_theory.proofs.QuestionLaws.{and-true}
 use Rattle.text_buffer.proofs.PutLaws.{put-none, Written, written-as, written-then}
-use Rattle.session.specs.declared.Receiver.{Receiver}
+use Rattle.session_receiver.specs.declared.Receiver.{Receiver}
 use Rattle.text_lines.specs.Line.{Line, slot, miss, isDigits, isSlot, wordOf, readLine}
 use Rattle.text_lines.specs.Ending.{lineLength}
 use Rattle.text_lines.proofs.LineLaws.{is-slot, reads-slot, reads-miss}

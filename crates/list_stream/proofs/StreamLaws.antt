@@ -8,7 +8,7 @@ use borrow.Author.Tests.{ltb-true, ltb-false}
 use lib.Dec.{eqb, ltb}
 use lib.ListN.{length, take}
 use lib.Seq.{take-append-le, take-all, length-take-le}
-use Rattle.session.specs.declared.Receiver.{Receiver}
+use Rattle.session_receiver.specs.declared.Receiver.{Receiver}
 use Rattle.text_lines.specs.Line.{linesFrom, readLine}
 use Rattle.text_lines.proofs.LineLaws.{reads-kept}
 use Rattle.list_line.specs.Listing.{header, lineText, lineSession, lineEnds, listed, listing}

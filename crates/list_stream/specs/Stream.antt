@@ -5,7 +5,7 @@ use mathlib.Core.Bool.{Bool, false, cond}
 use mathlib.Core.List.{List, [], _∷_, _++_}
 use lib.Dec.{eqb, ltb}
 use lib.ListN.{length, take}
-use Rattle.session.specs.declared.Receiver.{Receiver}
+use Rattle.session_receiver.specs.declared.Receiver.{Receiver}
 use Rattle.text_lines.specs.Line.{readLine}
 use Rattle.list_line.specs.Listing.{lineText, lineSession, lineEnds, opened}
 use Rattle.list_stream.specs.declared.Lister.{Lister}

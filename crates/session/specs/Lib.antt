@@ -1,5 +1,5 @@
--- What a reader must believe, in reading order; Step only serves the code.
-pub mod Slot
-pub mod Sending
-pub mod Receiving
-pub mod Step
+-- The definitions of both sides under one name.
+pub use Rattle.session_slot.specs.Slot
+pub use Rattle.session_sender.specs.Sending
+pub use Rattle.session_receiver.specs.Receiving
+pub use Rattle.session_reference.specs.Reference

@@ -13,9 +13,9 @@ use Rattle.code_theory.specs.Margin.{mostOther, lead, least, margin}
 use Rattle.code_theory.specs.Turn.{turn, altered}
 use Rattle.code_theory.specs.Nearest.{prefixed, messages, firstOr, find, isNear, nearest, isReadable, nearMessage, nearDistance, nearMargin}
 use Rattle.code_theory.specs.Question.{ask, isAlphabet, isOrder, isMessageSize, isWordSize, allBelow, answer, after}
-use Rattle.session.specs.Slot.{slotTime}
-use Rattle.session.specs.Sending.{soundSender, sendRefusal, sendAnswer, sendConstant, sendSession, sendWord}
-use Rattle.session.specs.Receiving.{isBelow, isMissing, soundReceiver, receiveRefusal, missRefusal, receiveConstant, zoneFrom, zoneSymbol, receiveDelivery, zoneValues, deliveryValues, receiveAnswer, receiveMessage, nextReceiver, afterReceive, receiveSession, missAnswer, missSession}
+use Rattle.session_slot.specs.Slot.{slotTime}
+use Rattle.session_sender.specs.Sending.{soundSender, sendRefusal, sendAnswer, sendConstant, sendSession, sendWord}
+use Rattle.session_receiver.specs.Receiving.{isBelow, isMissing, soundReceiver, receiveRefusal, missRefusal, receiveConstant, zoneFrom, zoneSymbol, receiveDelivery, zoneValues, deliveryValues, receiveAnswer, receiveMessage, nextReceiver, afterReceive, receiveSession, missAnswer, missSession}
 use Rattle.session_history_theory.specs.Calls.{slotsOf, ifAccepted, Send, senderCall, senderSlot, senderSlots, ReceiverCall, receive, miss, read, doubtful, missed, ifReceived, receiverCall, receiverSlot, receiverSlots}
 use Rattle.session_history_theory.specs.Whole.{wordOf, Such}
 use Rattle.session_history_theory.proofs.Theorem.{fresh, listening}

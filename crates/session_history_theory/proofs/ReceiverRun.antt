@@ -10,11 +10,11 @@ use lib.ListN.{set}
 use borrow.Author.Tests.{eqb-true, lt-ltb}
 use Rattle.code_theory.specs.Nearest.{isReadable, nearMessage}
 use Rattle.code_theory.specs.Question.{answer, after}
-use Rattle.session.specs.declared.Receiver.{Receiver}
-use Rattle.session.specs.declared.Reference.{Reference}
-use Rattle.session.specs.declared.Reference.the-variants.{Held, Missing}
-use Rattle.session.specs.Receiving.{isBelow, soundReceiver, receiveRefusal, receiveConstant, zoneSymbol, receiveDelivery, deliveryValues, receiveAnswer, receiveMessage, nextReceiver, afterReceive, receiveSession, missRefusal, missAnswer, missSession}
-use Rattle.session.proofs.SoundLaws.{ReceiveYes, miss-yes, receive-yes, receive-doubtful, constant-below, receiver-next}
+use Rattle.session_receiver.specs.declared.Receiver.{Receiver}
+use Rattle.session_reference.specs.declared.Reference.{Reference}
+use Rattle.session_reference.specs.declared.Reference.the-variants.{Held, Missing}
+use Rattle.session_receiver.specs.Receiving.{isBelow, soundReceiver, receiveRefusal, receiveConstant, zoneSymbol, receiveDelivery, deliveryValues, receiveAnswer, receiveMessage, nextReceiver, afterReceive, receiveSession, missRefusal, missAnswer, missSession}
+use Rattle.session_receiver.proofs.SoundLaws.{ReceiveYes, miss-yes, receive-yes, receive-doubtful, constant-below, receiver-next}
 use Rattle.session_history_theory.specs.Calls.{ifAccepted, ReceiverCall, receive, miss, ReceiverSlot, read, doubtful, missed, ifReceived, receiverCall, receiverSlot}
 use Rattle.session_history_theory.proofs.Run.{Step}
 

@@ -8,10 +8,10 @@ use native.Mathlib.Omega.{arith}
 use lib.ListN.{set}
 use Rattle.code_theory.specs.Code.{codeword, Symbols}
 use Rattle.code_theory.specs.Question.{answer, after}
-use Rattle.session.specs.declared.Sender.{Sender}
-use Rattle.session.specs.Slot.{slots}
-use Rattle.session.specs.Sending.{soundSender, sendRefusal, sendConstant, sendAnswer, sendSession, sendWord}
-use Rattle.session.proofs.SoundLaws.{send-yes, sender-next}
+use Rattle.session_sender.specs.declared.Sender.{Sender}
+use Rattle.session_slot.specs.Slot.{slots}
+use Rattle.session_sender.specs.Sending.{soundSender, sendRefusal, sendConstant, sendAnswer, sendSession, sendWord}
+use Rattle.session_sender.proofs.SoundLaws.{send-yes, sender-next}
 use Rattle.session_history_theory.specs.Calls.{ifAccepted, Send, SenderSlot, senderCall, senderSlot}
 use Rattle.session_history_theory.proofs.Run.{Step}
 

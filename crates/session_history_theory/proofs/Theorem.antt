@@ -18,18 +18,19 @@ use Rattle.code_theory.specs.Nearest.{nearest, isReadable, nearMessage, nearDis
 use Rattle.code_theory.specs.Question.{isAlphabet, isOrder}
 use Rattle.code_theory.proofs.TurnLaws.{never-both, altered-set, nearest-turned, subMod-turned}
 use Rattle.code_theory.proofs.NearestLaws.{readable}
-use Rattle.session.specs.declared.Sender.{Sender}
-use Rattle.session.specs.declared.Receiver.{Receiver}
-use Rattle.session.specs.declared.Delivery.{Delivery}
-use Rattle.session.specs.declared.Reference.{Reference}
-use Rattle.session.specs.declared.Reference.the-variants.{Missing}
-use Rattle.session.specs.declared.Zone.{Zone}
-use Rattle.session.specs.declared.Zone.the-variants.{Known, Unknown}
-use Rattle.session.specs.Slot.{slots, slotTime}
-use Rattle.session.specs.Sending.{openSender, sendRefusal, sendConstant}
-use Rattle.session.specs.Receiving.{openReceiver, isBelow, isMissing, receiveRefusal, missRefusal, receiveConstant, zoneFrom, zoneSymbol, receiveDelivery, zoneValues, deliveryValues, nextReceiver}
+use Rattle.session_sender.specs.declared.Sender.{Sender}
+use Rattle.session_receiver.specs.declared.Receiver.{Receiver}
+use Rattle.session_receiver.specs.declared.Delivery.{Delivery}
+use Rattle.session_reference.specs.declared.Reference.{Reference}
+use Rattle.session_reference.specs.declared.Reference.the-variants.{Missing}
+use Rattle.session_reference.specs.declared.Zone.{Zone}
+use Rattle.session_reference.specs.declared.Zone.the-variants.{Known, Unknown}
+use Rattle.session_slot.specs.Slot.{slots, slotTime}
+use Rattle.session_sender.specs.Sending.{openSender, sendRefusal, sendConstant}
+use Rattle.session_receiver.specs.Receiving.{openReceiver, isBelow, isMissing, receiveRefusal, missRefusal, receiveConstant, zoneFrom, zoneSymbol, receiveDelivery, zoneValues, deliveryValues, nextReceiver}
 use Rattle.code_theory.proofs.QuestionLaws.{alphabet-positive}
-use Rattle.session.proofs.SoundLaws.{sender-opened, receiver-opened, sender-sound, receiver-sound, near-symbols}
+use Rattle.session_receiver.proofs.SoundLaws.{receiver-opened, receiver-sound, near-symbols}
+use Rattle.session_sender.proofs.SoundLaws.{sender-opened, sender-sound}
 use Rattle.session_history_theory.specs.Calls.{Send, SenderSlot, senderCall, senderSlot, senderSlots, senderAfter, ReceiverCall, ReceiverSlot, read, doubtful, missed, receiverCall, receiverSlot, receiverSlots, receiverAfter}
 use Rattle.session_history_theory.specs.Whole.{wordOf, Such, Accepted, Unmeasured, first, afterMissed, afterDoubtful, WholeSessions}
 use Rattle.session_history_theory.proofs.Run.{before, before-next, Chain, chain, chain-made, chain-before, chain-end}

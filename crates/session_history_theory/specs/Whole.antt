@@ -10,13 +10,13 @@ use Rattle.code_theory.specs.Sum.{at}
 use Rattle.code_theory.specs.Modular.{subMod}
 use Rattle.code_theory.specs.Code.{codeword, Symbols}
 use Rattle.code_theory.specs.Turn.{altered}
-use Rattle.session.specs.declared.Sender.{Sender}
-use Rattle.session.specs.declared.Receiver.{Receiver}
-use Rattle.session.specs.declared.Delivery.{Delivery}
-use Rattle.session.specs.declared.Zone.the-variants.{Known, Unknown}
-use Rattle.session.specs.Slot.{slots, slotTime}
-use Rattle.session.specs.Sending.{soundSender, sendRefusal}
-use Rattle.session.specs.Receiving.{soundReceiver, receiveRefusal, missRefusal, receiveConstant, zoneSymbol, deliveryValues}
+use Rattle.session_sender.specs.declared.Sender.{Sender}
+use Rattle.session_receiver.specs.declared.Receiver.{Receiver}
+use Rattle.session_receiver.specs.declared.Delivery.{Delivery}
+use Rattle.session_reference.specs.declared.Zone.the-variants.{Known, Unknown}
+use Rattle.session_slot.specs.Slot.{slots, slotTime}
+use Rattle.session_sender.specs.Sending.{soundSender, sendRefusal}
+use Rattle.session_receiver.specs.Receiving.{soundReceiver, receiveRefusal, missRefusal, receiveConstant, zoneSymbol, deliveryValues}
 use Rattle.session_history_theory.specs.Calls.{SenderSlot, ReceiverSlot, read, doubtful, missed}
 
 -- the word that a slot received; a missed slot has none, nor has one past the end

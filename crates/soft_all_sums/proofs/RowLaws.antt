@@ -12,7 +12,7 @@ use lib.ListN.{length, getD, set, length-set}
 use lib.Pow.{pow-mono}
 use lib.Seq.{getD-set-same, getD-set-other}
 use lib.Ieee.{Float}
-use Rattle.code_theory.proofs.IndexLaws.{nthClear}
+use Rattle.code_theory.specs.Index.{nthClear}
 use Rattle.soft_theory.specs.Numbers.{f32}
 use Rattle.soft_theory.specs.Complex.{Complex, sample, plus}
 use Rattle.soft_theory.specs.Soft.{voteSums}

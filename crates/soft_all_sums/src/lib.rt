@@ -17,7 +17,7 @@ fn put_row(m: u32, k: u32, b: usize, re: &[f32], im: &[f32], rows: &mut [f32])
 {
     let at = 16 * k as usize;
     for x in 0..8usize {
-        let i = decode_long_counters::nth_clear(k, 8 * b + x / 4 * 4) + x % 4;
+        let i = code_arith::nth_clear(k, 8 * b + x / 4 * 4) + x % 4;
         let z = soft_vote_sums::vote_at(m, k, 8 * b + x, i, re, im);
         rows[at + x] = z.re;
         rows[at + 8 + x] = z.im;
@@ -115,7 +115,7 @@ fn more(m: u32, k: u32, j: usize, s: Sums, re: &[f32], im: &[f32]) -> Sums
 {
     soft_vote_sums::add(
         s,
-        soft_vote_sums::vote_at(m, k, j, decode_long_counters::nth_clear(k, j), re, im),
+        soft_vote_sums::vote_at(m, k, j, code_arith::nth_clear(k, j), re, im),
     )
 }
 

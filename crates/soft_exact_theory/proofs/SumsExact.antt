@@ -7,7 +7,8 @@ use lib.IntN.{ℤ, _*ℤ_, natAbs}
 use lib.Ieee.{Float}
 use lib.Pow.{pow-mono}
 use Rattle.code_theory.specs.Code.{linear}
-use Rattle.code_theory.proofs.IndexLaws.{nthClear, nth-partner-lt}
+use Rattle.code_theory.specs.Index.{nthClear}
+use Rattle.code_theory.proofs.IndexLaws.{nth-partner-lt}
 use Rattle.soft_theory.specs.Numbers.{f32, integers}
 use Rattle.soft_theory.specs.Complex.{Complex, term, turnBack, plus, stepIfClear, upward, sums}
 use Rattle.soft_theory.specs.Soft.{voteSums, constantSums}

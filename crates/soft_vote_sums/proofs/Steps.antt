@@ -9,7 +9,8 @@ use lib.Seq.{take-all, getD-drop}
 use lib.Pow.{pow-mono}
 use lib.IntN.{pos}
 use lib.Ieee.{Float, binary32, ofBits, ofInt}
-use Rattle.code_theory.proofs.IndexLaws.{nthClear, nth-partner-lt}
+use Rattle.code_theory.specs.Index.{nthClear}
+use Rattle.code_theory.proofs.IndexLaws.{nth-partner-lt}
 use Rattle.soft_theory.specs.Numbers.{f32}
 use Rattle.soft_theory.specs.Complex.{Complex, sample, term, plus}
 use Rattle.soft_theory.specs.Soft.{voteSums}

@@ -2,7 +2,7 @@
 ghost use mathlib.Core.Path.{_≡_};
 ghost use Prim.Native.Nat.{_/_, _<_};
 ghost use lib.ListN.{length, getD};
-ghost use Rattle.code_theory.proofs.IndexLaws.{nthClear};
+ghost use Rattle.code_theory.specs.Index.{nthClear};
 ghost use Rattle.soft_theory.specs.Numbers.{f32};
 ghost use Rattle.soft_theory.specs.Complex.{sample, term, plus};
 ghost use Rattle.soft_theory.specs.Soft.{voteSums};
@@ -48,7 +48,7 @@ pub fn vote_at(m: u32, k: u32, j: usize, i: usize, re: &[f32], im: &[f32]) -> Su
     requires { ⌜ Samples m (now re) (now im) × (k < m) × (j < length (now re) / 2) × (i ≡ nthClear k j) ⌝ }
     ensures { λ r. ⌜ pair r ≡ voteAt (now (re .entry)) (now (im .entry)) k j ⌝ }
 {
-    let gap = code_questions::pow2(k);
+    let gap = code_arith::pow2(k);
     vote_term(
         part(re, i + gap),
         part(im, i + gap),
@@ -71,19 +71,13 @@ pub fn vote_sums(m: u32, k: u32, re: &[f32], im: &[f32]) -> Sums
     ensures { λ r. ⌜ pair r ≡ voteSums f32 m k (sample f32 (now (re .entry)) (now (im .entry))) ⌝ }
 {
     let mut s = Sums { re: 0.0, im: 0.0 };
-    let gap = code_questions::pow2(k);
+    let gap = code_arith::pow2(k);
     let yr = &re[gap..];
     let yi = &im[gap..];
     for b in 0..re.len() / 4 {
         let j = 2 * b;
-        s = add(
-            s,
-            vote_of(decode_long_counters::nth_clear(k, j), re, im, yr, yi),
-        );
-        s = add(
-            s,
-            vote_of(decode_long_counters::nth_clear(k, j + 1), re, im, yr, yi),
-        );
+        s = add(s, vote_of(code_arith::nth_clear(k, j), re, im, yr, yi));
+        s = add(s, vote_of(code_arith::nth_clear(k, j + 1), re, im, yr, yi));
     }
     s
 }
@@ -93,8 +87,8 @@ pub fn four_sums(k: u32, re: &[f32], im: &[f32]) -> Sums
     requires { ⌜ Samples 2 (now re) (now im) × (k < 2) ⌝ }
     ensures { λ r. ⌜ pair r ≡ voteSums f32 2 k (sample f32 (now (re .entry)) (now (im .entry))) ⌝ }
 {
-    let i = decode_long_counters::nth_clear(k, 0);
+    let i = code_arith::nth_clear(k, 0);
     let s = add(Sums { re: 0.0, im: 0.0 }, vote_at(2, k, 0, i, re, im));
-    let j = decode_long_counters::nth_clear(k, 1);
+    let j = code_arith::nth_clear(k, 1);
     add(s, vote_at(2, k, 1, j, re, im))
 }

@@ -6,11 +6,10 @@ use mathlib.Core.Bool.{true, cond}
 use lib.Dec.{ltb}
 use lib.ListN.{length}
 use Rattle.code_theory.specs.Sum.{at}
-use Rattle.code_theory.specs.Index.{bit}
+use Rattle.code_theory.specs.Index.{bit, nthClear}
 use Rattle.code_theory.specs.Modular.{subMod}
 use Rattle.code_theory.specs.Vote.{vote}
 use Rattle.code_theory.specs.Question.{isAlphabet}
-use Rattle.code_theory.proofs.IndexLaws.{nthClear}
 use Rattle.swar_theory.specs.Digit.{digit}
 use Rattle.swar_lanes.specs.Lane.{offset, Lanes, Held, Packed, Within}
 

@@ -108,8 +108,8 @@ fn far(q: u64, k: u32, j: usize, x: &[u64; 16]) -> u64
     requires { ⌜ Reach q k j (now x) × (4 ≤ k) ⌝ }
     ensures { λ r. ⌜ BallotOf q k j (now (x .entry)) r × Below q r ⌝ }
 {
-    let i = decode_long_counters::nth_clear(k - 4, j);
-    less(q, number(x, i + code_questions::pow2(k - 4)), number(x, i))
+    let i = code_arith::nth_clear(k - 4, j);
+    less(q, number(x, i + code_arith::pow2(k - 4)), number(x, i))
 }
 
 // Ballot j for coefficient k: sixteen of its votes.

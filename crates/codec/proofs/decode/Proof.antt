@@ -5,7 +5,7 @@ use native.Mathlib.Omega.{arith}
 use borrow.Author.Needs.{needs}
 use Rattle.codec.specs.Codec.{decoded}
 use Rattle.codec.specs.Asked.{wordRefusal}
-use Rattle.decode_long_counters.proofs.CountLaws.{word-length}
+use Rattle.code_theory.proofs.WordLaws.{word-length}
 use Rattle.codec.proofs.Accepted.{Readable, readable}
 use Rattle.codec.proofs.ReadLaws.{decode-refused, decode-doubtful, decode-accepted}
 use Rattle.codec.proofs.decode.Statement.{statement}

@@ -3,7 +3,7 @@ use mathlib.Core.Path.{refl, _∙_}
 use native.Mathlib.Omega.{arith}
 use lib.ListN.{length-set}
 use lib.Seq.{getD-set-same}
-use Rattle.decode_long_counters.proofs.CountLaws.{bounds, word-length}
+use Rattle.code_theory.proofs.WordLaws.{bounds, word-length}
 use Rattle.decode_long_winner.proofs.RaceLaws.{next-le}
 use Rattle.decode_by_length.proofs.StandingLaws.{standing-fits, votes-le, elected}
 use Rattle.decode_by_length.proofs.ConstantLaws.{long-room, long-code, constant-leads}
