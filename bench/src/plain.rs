@@ -1,12 +1,12 @@
 //! Plain safe Rust, (a): the bit of every index is tested, and every sum is taken modulo q.
 
-use crate::questions::{is_alphabet, is_order, yes, Refusal};
+use crate::questions::{is_alphabet, is_variables, yes, Refusal};
 use crate::Reading;
 
 /// Reads a word, or gives the number of the first question answered no: 1, 2, 5, 7, 8, 9.
 pub fn read(q: u32, m: u32, message: &mut [u8], word: &[u8]) -> Result<Reading, Refusal> {
     yes(is_alphabet(q), 1)?;
-    yes(is_order(m), 2)?;
+    yes(is_variables(m), 2)?;
     yes(message.len() == m as usize + 1, 5)?;
     yes(word.len() == 1 << m, 7)?;
     yes(word.iter().all(|&symbol| u32::from(symbol) < q), 8)?;
@@ -78,7 +78,7 @@ fn winner(votes: &[u32; 8]) -> (u8, u32, u32) {
 /// Writes the word of a message, or gives the number of the first question answered no: 1, 2, 5, 6, 7.
 pub fn write(q: u32, m: u32, message: &[u8], word: &mut [u8]) -> Result<(), Refusal> {
     yes(is_alphabet(q), 1)?;
-    yes(is_order(m), 2)?;
+    yes(is_variables(m), 2)?;
     yes(message.len() == m as usize + 1, 5)?;
     yes(message.iter().all(|&symbol| u32::from(symbol) < q), 6)?;
     yes(word.len() == 1 << m, 7)?;

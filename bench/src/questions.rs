@@ -17,7 +17,7 @@ pub fn is_alphabet(q: u32) -> bool {
 }
 
 /// Question 2.
-pub fn is_order(m: u32) -> bool {
+pub fn is_variables(m: u32) -> bool {
     (2..=8).contains(&m)
 }
 

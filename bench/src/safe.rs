@@ -3,7 +3,7 @@
 //! const generics write: a reader for each of the 21 codes, a writer for each of the seven lengths. (c) are the same with one
 //! body for all codes, q and m being arguments.
 
-use crate::questions::{all_below, is_alphabet, is_order, yes, Refusal};
+use crate::questions::{all_below, is_alphabet, is_variables, yes, Refusal};
 use crate::Reading;
 
 /// One vote for the symbol.
@@ -87,7 +87,7 @@ fn read_into(
 #[inline(always)]
 pub fn read(q: u32, m: u32, message: &mut [u8], word: &[u8]) -> Result<Reading, Refusal> {
     yes(is_alphabet(q), 1)?;
-    yes(is_order(m), 2)?;
+    yes(is_variables(m), 2)?;
     yes(message.len() == m as usize + 1, 5)?;
     yes(word.len() == 1 << m, 7)?;
     yes(all_below(q, word), 8)?;
@@ -161,7 +161,7 @@ pub fn read_each(q: u32, m: u32, message: &mut [u8], word: &[u8]) -> Result<Read
 #[inline(always)]
 pub fn write(q: u32, m: u32, message: &[u8], word: &mut [u8]) -> Result<(), Refusal> {
     yes(is_alphabet(q), 1)?;
-    yes(is_order(m), 2)?;
+    yes(is_variables(m), 2)?;
     yes(message.len() == m as usize + 1, 5)?;
     yes(all_below(q, message), 6)?;
     yes(word.len() == 1 << m, 7)?;

@@ -1,7 +1,7 @@
 //! The best safe Rust for soft samples, q = 4, with the bits of the document's order of operations: the sums of several
 //! coefficients run side by side, since each waits for the addition before.
 
-use crate::questions::{is_order, yes, Refusal};
+use crate::questions::{is_variables, yes, Refusal};
 
 /// A real and an imaginary sum.
 #[derive(Clone, Copy, Default)]
@@ -183,7 +183,7 @@ fn read_sized<const N: usize, const H: usize, const M: usize, const S: usize>(
 /// Fills the message, or gives the number of the first question answered no: 2, 5, 7, 10, 11.
 #[inline(always)]
 pub fn read(m: u32, message: &mut [u8], re: &[f32], im: &[f32]) -> Result<(), Refusal> {
-    yes(is_order(m), 2)?;
+    yes(is_variables(m), 2)?;
     match m {
         2 => read_sized::<4, 2, 2, 3>(message, re, im),
         3 => read_sized::<8, 4, 3, 4>(message, re, im),

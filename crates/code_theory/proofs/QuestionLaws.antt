@@ -13,7 +13,7 @@ use lib.Bits.{bitAnd, and-mask}
 use borrow.Author.Tests.{eqb-true, leb-true, ltb-true, lt-ltb, eq-eqb, ne-eqb}
 use Rattle.code_theory.specs.Sum.{at}
 use Rattle.code_theory.specs.Code.{Symbols}
-use Rattle.code_theory.specs.Question.{ask, isAlphabet, isOrder, isMessageSize, isWordSize, allBelow, Answer, accepted, refused, answer, after}
+use Rattle.code_theory.specs.Question.{ask, isAlphabet, isVariables, isMessageSize, isWordSize, allBelow, Answer, accepted, refused, answer, after}
 
 pub and-true : (a b : Bool) → a && b ≡ true → (a ≡ true) × (b ≡ true)
 and-true true b e = (refl, e)
@@ -75,9 +75,9 @@ mask-mod q x (inl e) = rw e (and-mask x 1)
 mask-mod q x (inr (inl e)) = rw e (and-mask x 2)
 mask-mod q x (inr (inr e)) = rw e (and-mask x 3)
 
-pub order-bounds : (m : ℕ) → isOrder m ≡ true → (2 ≤ m) × (m ≤ 8)
-unfolding isOrder
-order-bounds m e = let (a, b) = and-true (leb 2 m) (leb m 8) e in (leb-true 2 m a, leb-true m 8 b)
+pub variables-bounds : (m : ℕ) → isVariables m ≡ true → (2 ≤ m) × (m ≤ 8)
+unfolding isVariables
+variables-bounds m e = let (a, b) = and-true (leb 2 m) (leb m 8) e in (leb-true 2 m a, leb-true m 8 b)
 
 pub message-size : (m : ℕ) (s : List ℕ) → isMessageSize m s ≡ true → length s ≡ suc m
 unfolding isMessageSize

@@ -8,8 +8,8 @@ use native.Mathlib.Decide.{ℕ-discrete}
 use native.Mathlib.Omega.{arith}
 use lib.ListN.{length}
 use Rattle.code_theory.specs.Nearest.{isReadable}
-use Rattle.code_theory.specs.Question.{ask, isAlphabet, isOrder, isMessageSize, isWordSize, allBelow, accepted, refused}
-use Rattle.code_theory.proofs.QuestionLaws.{ask-yes, ask-never, ask-later, alphabet, alphabet-bounds, order-bounds, message-size, word-size, symbols, answer-yes, answer-no}
+use Rattle.code_theory.specs.Question.{ask, isAlphabet, isVariables, isMessageSize, isWordSize, allBelow, accepted, refused}
+use Rattle.code_theory.proofs.QuestionLaws.{ask-yes, ask-never, ask-later, alphabet, alphabet-bounds, variables-bounds, message-size, word-size, symbols, answer-yes, answer-no}
 use Rattle.code_theory.specs.Word.{WellFormed}
 use Rattle.codec.specs.Codec.{encodeRefusal, encodeAnswer, decodeRefusal}
 use Rattle.codec.specs.Asked.{sizeRefusal, wordRefusal}
@@ -27,10 +27,10 @@ pub sized : (q m : ℕ) (s : List ℕ) → sizeRefusal q m s ≡ 0 → Sized q m
 unfolding sizeRefusal
 sized q m s e =
     let (a, f) = ask-yes (isAlphabet q) 0 _ e in
-    let (b, g) = ask-yes (isOrder m) 1 _ f in
+    let (b, g) = ask-yes (isVariables m) 1 _ f in
     let (c, h) = ask-yes (isMessageSize m s) 4 _ g in
     let (two, eight) = alphabet-bounds q (alphabet q a) in
-    let (low, high) = order-bounds m b in
+    let (low, high) = variables-bounds m b in
     record { alphabet = a; some = omega arith; few = eight; low = low; high = high; message = message-size m s c }
 
 -- the questions after those that are asked in a function of their own

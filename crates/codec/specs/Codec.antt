@@ -2,7 +2,7 @@
 use Prim.Native.Nat.{ℕ}
 use mathlib.Core.List.{List, [], _∷_}
 use Rattle.code_theory.specs.Nearest.{isReadable, nearMessage, nearDistance, nearMargin}
-use Rattle.code_theory.specs.Question.{ask, isAlphabet, isOrder, isMessageSize, isWordSize, allBelow, Answer, accepted, refused, answer, after}
+use Rattle.code_theory.specs.Question.{ask, isAlphabet, isVariables, isMessageSize, isWordSize, allBelow, Answer, accepted, refused, answer, after}
 use Rattle.codec.specs.declared.Reading.{Reading}
 use Rattle.codec.specs.declared.Encoded.{Encoded}
 use Rattle.codec.specs.declared.Encoded.the-variants as E
@@ -19,7 +19,7 @@ encodeAnswer q m message word = answer (encodeRefusal q m message word) []
 unfoldable pub decodeRefusal : ℕ → ℕ → List ℕ → List ℕ → ℕ
 decodeRefusal q m message word =
     ask (isAlphabet q) 1
-    (ask (isOrder m) 2
+    (ask (isVariables m) 2
     (ask (isMessageSize m message) 5
     (ask (isWordSize m word) 7
     (ask (allBelow q word) 8

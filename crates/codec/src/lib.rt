@@ -40,7 +40,7 @@ fn size_refusal(q: u32, m: u32, message: &[u8]) -> u32
     if !code_questions::is_alphabet(q) {
         return 1;
     }
-    if !code_questions::is_order(m) {
+    if !code_questions::is_variables(m) {
         return 2;
     }
     if message.len() != m as usize + 1 {

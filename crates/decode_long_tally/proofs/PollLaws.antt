@@ -129,17 +129,17 @@ unfolding ballotUnits sum
 ballots-none q m k x = (omega arith, λ w p. refl)
 
 module _ (q m k : ℕ) (x : List ℕ) (v : Votes q m x) (h : k < m) where
-  order : suc (m - 5) ≡ m - 4
-  order = omega (arith, v .low)
+  one-less : suc (m - 5) ≡ m - 4
+  one-less = omega (arith, v .low)
 
   power : 2 ^ (m - 4) ≡ 2 * 2 ^ (m - 5)
-  power = omega (arith, ap (λ z. 2 ^ z) order)
+  power = omega (arith, ap (λ z. 2 ^ z) one-less)
 
   pub few-ballots : 2 ^ (m - 5) ≤ 8
   few-ballots = pow-mono {i = m - 5} {j = 3} (omega (arith, v .high))
 
   far-partner : (j : ℕ) → j < 2 ^ (m - 5) → 4 ≤ k → nthClear (k - 4) j + 2 ^ (k - 4) < 2 ^ (m - 4)
-  far-partner j l g = omega (arith, nth-partner-lt (k - 4) (m - 5) j (omega (arith, v .low)) l, ap (λ z. 2 ^ z) order)
+  far-partner j l g = omega (arith, nth-partner-lt (k - 4) (m - 5) j (omega (arith, v .low)) l, ap (λ z. 2 ^ z) one-less)
 
   pub reach : (j : ℕ) → j < 2 ^ (m - 5) → Reach q k j x
   reach j l = record {
@@ -147,7 +147,7 @@ module _ (q m k : ℕ) (x : List ℕ) (v : Votes q m x) (h : k < m) where
     size = v .size;
     symbols = v .symbols;
     few = omega (arith, few-ballots);
-    order = omega (arith, v .high);
+    variables = omega (arith, v .high);
     partner = λ g. omega (arith, far-partner j l g, power, few-ballots);
   }
 

@@ -261,7 +261,7 @@ module _ (q x y : ℕ) (al : isAlphabet q ≡ true) (s : ℕ → ℕ) (w : List 
         same-le (digit 4 d 14) (s 0),
       )
 
--- the symbols of a guess of order m, one after the other
+-- the symbols of a guess of m coefficients, one after the other
 symbols-are : (m a c0 c1 c2 c3 c4 : ℕ) (s : ℕ → ℕ) → m ≤ 5 → a ≡ s 0 → (0 < m → c0 ≡ s 1) → (1 < m → c1 ≡ s 2) → (2 < m → c2 ≡ s 3) → (3 < m → c3 ≡ s 4) → (4 < m → c4 ≡ s 5)
     → (k : ℕ) → k < suc m → at (message a c0 c1 c2 c3 c4) k ≡ s k
 unfolding message

@@ -19,11 +19,11 @@ pub record Chosen (q n : ℕ) (f : ℕ → ℕ) (r : ℕ) : Type 0 where
   pub fits : r < q
   pub is : (v : ℕ) → v < q → n ≤ f v → r ≡ v
 
--- the constant a and five coefficients as a message; those past the order are 0
+-- the constant a and five coefficients as a message; those from m on are 0
 unfoldable pub message : ℕ → ℕ → ℕ → ℕ → ℕ → ℕ → List ℕ
 message a c0 c1 c2 c3 c4 = a ∷ c0 ∷ c1 ∷ c2 ∷ c3 ∷ c4 ∷ []
 
--- d is the only message that can be near the word w of order m
+-- d is the only message that can be near the word w of 2^m places
 pub record Guessed (q m : ℕ) (w d : List ℕ) : Type 0 where
   pub below : (k : ℕ) → k < 6 → at d k < q
   pub only : (s : ℕ → ℕ) → winner.Below q m s → Near q m s (at w) → (k : ℕ) → k < suc m → at d k ≡ s k

@@ -70,7 +70,7 @@ fn fifteen(q: u64, d: u64, e: u64, i: u32, j: u32, k: u32) -> u64
     )
 }
 
-// The constant and the coefficients of a message; those past its order are 0.
+// The constant and the coefficients of a message; those from m on are 0.
 pub struct Guess {
     pub constant: u64,
     pub c0: u64,

@@ -48,7 +48,7 @@ left-is q x a c0 c1 c2 c3 code r h e f t k =
 pub left-below : (q x a c0 c1 c2 c3 r : ℕ) → 0 < q → Left q x a c0 c1 c2 c3 r → Below q r
 left-below q x a c0 c1 c2 c3 r h l t k = omega (arith, l t k, subMod-lt q (digit 4 x t) (symbolAt q 4 (at (message a c0 c1 c2 c3 0)) (offset t)) h)
 
--- coefficients past the order of a place add nothing there
+-- coefficients from m on add nothing to a place below 2^m
 linear-low : (m n : ℕ) (c : ℕ → ℕ) (i : ℕ) → m ≤ n → i < 2 ^ m → linear n c i ≡ linear m c i
 unfolding linear sum
 linear-low m zero c i h l = ap (λ z. linear z c i) (let e : 0 ≡ m = omega arith in e)
@@ -138,7 +138,7 @@ word-low q m w r i l = omega (arith, word-below q m w r i, bounds q (r .alphabet
 pub below-eight : (q x : ℕ) → isAlphabet q ≡ true → Below q x → Below 8 x
 below-eight q x a h t k = omega (arith, h t k, bounds q a)
 
--- A TRIAL of one number: the candidate d of a word of order m up to 4
+-- A TRIAL of one number: the candidate d of a word of m variables, m up to 4
 module _ (q m : ℕ) (w : List ℕ) (r : WellFormed q m w) (h : m ≤ 4) (x a c0 c1 c2 c3 c4 e : ℕ) (hx : Held w 0 x) (l : Left q x a c0 c1 c2 c3 e)
     (g : GuessOf q m x (message a c0 c1 c2 c3 c4)) where
   some : 0 < q

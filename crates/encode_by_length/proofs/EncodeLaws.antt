@@ -6,8 +6,8 @@ use mathlib.Core.List.{List}
 use native.Mathlib.Omega.{arith}
 use lib.ListN.{length}
 use Rattle.code_theory.specs.Code.{codeword}
-use Rattle.code_theory.specs.Question.{isAlphabet, isOrder, isMessageSize, isWordSize, allBelow}
-use Rattle.code_theory.proofs.QuestionLaws.{ask-yes, ask-on, ask-no, order-bounds, message-size, word-size, symbols, after-yes, after-no}
+use Rattle.code_theory.specs.Question.{isAlphabet, isVariables, isMessageSize, isWordSize, allBelow}
+use Rattle.code_theory.proofs.QuestionLaws.{ask-yes, ask-on, ask-no, variables-bounds, message-size, word-size, symbols, after-yes, after-no}
 use Rattle.encode_codeword.specs.Coded.{Fits}
 use Rattle.encode_by_length.specs.Encoder.{encodeRefusal, encodeWord}
 
@@ -22,15 +22,15 @@ module _ (q m : ℕ) (s w : List ℕ) where
   alphabet-no a = left-as-is 0 (ask-no _ _ _ a)
 
   module _ (a : isAlphabet q ≡ true) where
-    pub order-no : (2 ≤ m → m ≤ 8 → ⊥) → (2 ≡ encodeRefusal q m s w) × (w ≡ encodeWord q m s w)
+    pub variables-no : (2 ≤ m → m ≤ 8 → ⊥) → (2 ≡ encodeRefusal q m s w) × (w ≡ encodeWord q m s w)
     unfolding encodeRefusal
-    order-no h = left-as-is 1 (ask-on _ _ _ a ∙ ask-no _ _ _ (go (isOrder m) refl))
+    variables-no h = left-as-is 1 (ask-on _ _ _ a ∙ ask-no _ _ _ (go (isVariables m) refl))
       where
-        go : (b : Bool) → isOrder m ≡ b → b ≡ false
-        go true e = let (low, high) = order-bounds m e in absurd (h low high)
+        go : (b : Bool) → isVariables m ≡ b → b ≡ false
+        go true e = let (low, high) = variables-bounds m e in absurd (h low high)
         go false e = refl
 
-    module _ (b : isOrder m ≡ true) where
+    module _ (b : isVariables m ≡ true) where
       pub size-no : isMessageSize m s ≡ false → (5 ≡ encodeRefusal q m s w) × (w ≡ encodeWord q m s w)
       unfolding encodeRefusal
       size-no c = left-as-is 4 (ask-on _ _ _ a ∙ ask-on _ _ _ b ∙ ask-no _ _ _ c)
@@ -49,22 +49,22 @@ module _ (q m : ℕ) (s w : List ℕ) where
           unfolding encodeRefusal
           all-yes e = ask-on _ _ _ a ∙ ask-on _ _ _ b ∙ ask-on _ _ _ c ∙ ask-on _ _ _ d ∙ ask-on _ _ _ e
 
--- the same for an order that is written out
-pub in-order : (q m j r : ℕ) (s w v : List ℕ) → j ≡ m → (r ≡ encodeRefusal q j s w) × (v ≡ encodeWord q j s w) → (r ≡ encodeRefusal q m s w) × (v ≡ encodeWord q m s w)
-in-order q m j r s w v e d = rw e at d
+-- the same for an m that is written out
+pub with-variables : (q m j r : ℕ) (s w v : List ℕ) → j ≡ m → (r ≡ encodeRefusal q j s w) × (v ≡ encodeWord q j s w) → (r ≡ encodeRefusal q m s w) × (v ≡ encodeWord q m s w)
+with-variables q m j r s w v e d = rw e at d
 
 -- where all have a yes, the word of the message fits its slice and fills it
 pub all-fits : (q m : ℕ) (s w : List ℕ) → encodeRefusal q m s w ≡ 0 → Fits q m s w × (length w ≡ 2 ^ m)
 unfolding encodeRefusal
 all-fits q m s w e =
     let (a, e1) = ask-yes (isAlphabet q) 0 _ e in
-    let (b, e2) = ask-yes (isOrder m) 1 _ e1 in
+    let (b, e2) = ask-yes (isVariables m) 1 _ e1 in
     let (c, e3) = ask-yes (isMessageSize m s) 4 _ e2 in
     let (d, e4) = ask-yes (allBelow q s) 5 _ e3 in
     let room = word-size m w (ask-yes (isWordSize m w) 6 _ e4 .0) in
-    let (low, high) = order-bounds m b in
+    let (low, high) = variables-bounds m b in
     let size = message-size m s c in
-    (record { alphabet = a; low = low; order = high; size = omega (arith, size); below = symbols q (suc m) s size d .below; room = omega (arith, room) }, room)
+    (record { alphabet = a; low = low; variables = high; size = omega (arith, size); below = symbols q (suc m) s size d .below; room = omega (arith, room) }, room)
 
 -- the word that Write leaves where all have a yes
 pub word-written : (q m : ℕ) (s w v : List ℕ) → encodeRefusal q m s w ≡ 0 → v ≡ codeword q m s → (0 ≡ encodeRefusal q m s w) × (v ≡ encodeWord q m s w)

@@ -9,7 +9,7 @@ use lib.Dec.{eqb, ltb}
 use lib.ListN.{length}
 use Rattle.code_theory.specs.Sum.{at}
 use Rattle.code_theory.specs.Nearest.{isReadable}
-use Rattle.code_theory.specs.Question.{ask, isAlphabet, isOrder, isMessageSize, isWordSize, allBelow, after}
+use Rattle.code_theory.specs.Question.{ask, isAlphabet, isVariables, isMessageSize, isWordSize, allBelow, after}
 use Rattle.code_theory.proofs.QuestionLaws.{message-yes, word-yes, below-all}
 use Rattle.session_slot.specs.Slot.{slots}
 use Rattle.session_receiver.specs.Receiving.{isBelow, isMissing, soundReceiver, receiveRefusal, receiveConstant, receiveSession, afterReceive, nextReceiver, missRefusal, missSession}
@@ -23,7 +23,7 @@ use Rattle.list_line.proofs.SlotLaws.{told-bad}
 
 -- the session that is opened is sound, and each line leaves a sound one
 pub sound-opened : soundReceiver opened ≡ true
-unfolding opened soundReceiver isAlphabet isOrder isBelow isMissing
+unfolding opened soundReceiver isAlphabet isVariables isBelow isMissing
 sound-opened = refl
 
 pub sound-line : (s : Receiver) (line : Line) → soundReceiver s ≡ true → soundReceiver (lineSession s line) ≡ true

@@ -152,7 +152,7 @@ miss-line start bytes kept n k l e =
 pub line-fit : (l : Lister) (kept : List ℕ) (x : Line) (next : Receiver) → Fit l kept → next ≡ lineSession (l .receiver) x → (next .q ≡ 4) × (next .m ≡ 4)
 line-fit l kept x next f e =
     let code = line-code (l .receiver) x in
-    (ap (λ t. t .q) e ∙ code .0 ∙ f .alphabet, ap (λ t. t .m) e ∙ code .1 ∙ f .order)
+    (ap (λ t. t .q) e ∙ code .0 ∙ f .alphabet, ap (λ t. t .m) e ∙ code .1 ∙ f .variables)
 
 module _ (l : Lister) (start line bytes before : List ℕ) (place : ℕ) (g : Goes l start bytes before place) (size : length line ≡ 17) where
   -- a line that is listed
@@ -176,7 +176,7 @@ module _ (l : Lister) (start line bytes before : List ℕ) (place : ℕ) (g : Go
         all = ap (λ k. fedCount p (length before - place) (take k bytes)) count ∙ count-line p bytes (g .on) h (length before - place) (omega (arith, g .room)) ∙ sym count;
         some = omega (arith, count);
         bound = omega (arith, count, h);
-        fit = record { alphabet = code .0; order = code .1; kept = omega (arith, d .kept); size = size };
+        fit = record { alphabet = code .0; variables = code .1; kept = omega (arith, d .kept); size = size };
       }
 
   -- bytes with no newline, which are kept
@@ -196,7 +196,7 @@ module _ (l : Lister) (start line bytes before : List ℕ) (place : ℕ) (g : Go
         all = ap (λ k. fedCount p (length before - place) (take k bytes)) a ∙ count-within p (length before - place) bytes (g .on) (omega (arith, g .room)) ∙ sym a;
         some = omega (arith, b, g .some);
         bound = omega (arith, b);
-        fit = record { alphabet = g .fit .alphabet; order = g .fit .order; kept = small; size = size };
+        fit = record { alphabet = g .fit .alphabet; variables = g .fit .variables; kept = small; size = size };
       }
 
 -- the bytes read so far, from the progress p and the buffer b on

@@ -76,6 +76,6 @@ progress l line = record { session = l .receiver; part = take (l .kept) line; ov
 -- what a lister goes on from: a session of q = 4, m = 4, and a lent line of 17 bytes
 pub record Fit (l : Lister) (line : List ℕ) : Type 0 where
   pub alphabet : l .receiver .q ≡ 4
-  pub order : l .receiver .m ≡ 4
+  pub variables : l .receiver .m ≡ 4
   pub kept : l .kept ≤ 17
   pub size : length line ≡ 17

@@ -12,7 +12,7 @@ use Rattle.code_theory.specs.Vote.{count, vote, votes, residue, residues, tally
 use Rattle.code_theory.specs.Margin.{mostOther, lead, least, margin}
 use Rattle.code_theory.specs.Turn.{turn, altered}
 use Rattle.code_theory.specs.Nearest.{prefixed, messages, firstOr, find, isNear, nearest, isReadable, nearMessage, nearDistance, nearMargin}
-use Rattle.code_theory.specs.Question.{ask, isAlphabet, isOrder, isMessageSize, isWordSize, allBelow, answer, after}
+use Rattle.code_theory.specs.Question.{ask, isAlphabet, isVariables, isMessageSize, isWordSize, allBelow, answer, after}
 use Rattle.session_slot.specs.Slot.{slotTime}
 use Rattle.session_sender.specs.Sending.{soundSender, sendRefusal, sendAnswer, sendConstant, sendSession, sendWord}
 use Rattle.session_receiver.specs.Receiving.{isBelow, isMissing, soundReceiver, receiveRefusal, missRefusal, receiveConstant, zoneFrom, zoneSymbol, receiveDelivery, zoneValues, deliveryValues, receiveAnswer, receiveMessage, nextReceiver, afterReceive, receiveSession, missAnswer, missSession}
@@ -30,7 +30,7 @@ sends =
 
 pub sent-slots : senderSlots (fresh 2 2) sends
     ≡ record { message = 1 ∷ 1 ∷ 0 ∷ []; word = 1 ∷ 0 ∷ 1 ∷ 0 ∷ [] } ∷ record { message = 0 ∷ 0 ∷ 1 ∷ []; word = 1 ∷ 1 ∷ 0 ∷ 0 ∷ [] } ∷ []
-unfolding slotsOf ifAccepted senderCall senderSlot soundSender sendRefusal sendAnswer sendConstant sendSession sendWord ask answer after isAlphabet isOrder isMessageSize isWordSize allBelow codeword tabulate symbolAt linear sum bit
+unfolding slotsOf ifAccepted senderCall senderSlot soundSender sendRefusal sendAnswer sendConstant sendSession sendWord ask answer after isAlphabet isVariables isMessageSize isWordSize allBelow codeword tabulate symbolAt linear sum bit
 sent-slots = refl
 
 -- they arrive turned by 1, then a slot is missed, and the last word is doubtful
@@ -49,7 +49,7 @@ pub received-slots : receiverSlots (listening 2 2) calls
     ∷ missed
     ∷ doubtful (0 ∷ 0 ∷ 0 ∷ 1 ∷ [])
     ∷ []
-unfolding slotsOf ifAccepted ifReceived receiverCall receiverSlot isBelow isMissing soundReceiver receiveRefusal missRefusal receiveConstant zoneFrom zoneSymbol receiveDelivery zoneValues deliveryValues receiveAnswer receiveMessage nextReceiver afterReceive receiveSession missAnswer missSession slotTime ask answer after isAlphabet isOrder isMessageSize isWordSize allBelow prefixed messages firstOr find isNear nearest isReadable nearMessage nearDistance nearMargin distance differ symbolAt linear sum bit margin least lead mostOther tally residues residue count vote votes ifClear same subMod
+unfolding slotsOf ifAccepted ifReceived receiverCall receiverSlot isBelow isMissing soundReceiver receiveRefusal missRefusal receiveConstant zoneFrom zoneSymbol receiveDelivery zoneValues deliveryValues receiveAnswer receiveMessage nextReceiver afterReceive receiveSession missAnswer missSession slotTime ask answer after isAlphabet isVariables isMessageSize isWordSize allBelow prefixed messages firstOr find isNear nearest isReadable nearMessage nearDistance nearMargin distance differ symbolAt linear sum bit margin least lead mostOther tally residues residue count vote votes ifClear same subMod
 received-slots = refl
 
 -- slots 0 and 1 are such words

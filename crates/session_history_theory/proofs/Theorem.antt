@@ -15,7 +15,7 @@ use Rattle.code_theory.specs.Code.{codeword, Symbols}
 use Rattle.code_theory.specs.Near.{distance}
 use Rattle.code_theory.specs.Turn.{altered}
 use Rattle.code_theory.specs.Nearest.{nearest, isReadable, nearMessage, nearDistance}
-use Rattle.code_theory.specs.Question.{isAlphabet, isOrder}
+use Rattle.code_theory.specs.Question.{isAlphabet, isVariables}
 use Rattle.code_theory.proofs.TurnLaws.{never-both, altered-set, nearest-turned, subMod-turned}
 use Rattle.code_theory.proofs.NearestLaws.{readable}
 use Rattle.session_sender.specs.declared.Sender.{Sender}
@@ -134,7 +134,7 @@ fresh q m = record { q = q; m = m; last = 0; used = 0 }
 abbrev pub listening : ℕ → ℕ → Receiver
 listening q m = record { q = q; m = m; reference = Missing; used = 0 }
 
-module _ (q m : ℕ) (alphabet : isAlphabet q ≡ true) (order : isOrder m ≡ true) (sends : List Send) where
+module _ (q m : ℕ) (alphabet : isAlphabet q ≡ true) (variables : isVariables m ≡ true) (sends : List Send) where
   -- the slots of the strap, and the session before slot j
   abbrev strap : List SenderSlot
   strap = senderSlots (fresh q m) sends
@@ -146,7 +146,7 @@ module _ (q m : ℕ) (alphabet : isAlphabet q ≡ true) (order : isOrder m ≡ t
   strap-chain = chain senderCall senderSlot nextSender SentBy sender-step (fresh q m) sends
 
   fresh-at : SenderAt q m 0 (fresh q m)
-  fresh-at = record { isQ = refl; isM = refl; used = refl; sound = sender-sound _ (record { alphabet = alphabet; order = order; last = alphabet-positive q alphabet; used = omega arith; start = refl }) }
+  fresh-at = record { isQ = refl; isM = refl; used = refl; sound = sender-sound _ (record { alphabet = alphabet; variables = variables; last = alphabet-positive q alphabet; used = omega arith; start = refl }) }
 
   sender-at : (j : ℕ) (x : SenderSlot) → getElem? strap j ≡ some x → SenderAt q m j (senderBefore j)
   sender-at j x e = rw zero-add at (chain-before senderCall senderSlot nextSender SentBy (SenderAt q m) (sender-keep q m) 0 (fresh q m) strap _ strap-chain fresh-at j x e)
@@ -163,7 +163,7 @@ module _ (q m : ℕ) (alphabet : isAlphabet q ≡ true) (order : isOrder m ≡ t
   strap-last i x e =
       ap (λ s. s .last) (before-next nextSender (fresh q m) strap i x e) ∙ ap (λ a. (senderBefore i .last + at (x .message) 0) % a) (sender-at i x e .isQ)
 
-module _ (q m : ℕ) (alphabet : isAlphabet q ≡ true) (order : isOrder m ≡ true) (calls : List ReceiverCall) where
+module _ (q m : ℕ) (alphabet : isAlphabet q ≡ true) (variables : isVariables m ≡ true) (calls : List ReceiverCall) where
   -- the slots of the launch, and the session before slot j
   abbrev launch : List ReceiverSlot
   launch = receiverSlots (listening q m) calls
@@ -176,7 +176,7 @@ module _ (q m : ℕ) (alphabet : isAlphabet q ≡ true) (order : isOrder m ≡ t
 
   listening-at : ReceiverAt q m 0 (listening q m)
   unfolding isBelow isMissing
-  listening-at = record { isQ = refl; isM = refl; used = refl; sound = receiver-sound _ (record { alphabet = alphabet; order = order; reference = refl; used = omega arith; start = refl }) }
+  listening-at = record { isQ = refl; isM = refl; used = refl; sound = receiver-sound _ (record { alphabet = alphabet; variables = variables; reference = refl; used = omega arith; start = refl }) }
 
   receiver-at : (j : ℕ) (z : ReceiverSlot) → getElem? launch j ≡ some z → ReceiverAt q m j (receiverBefore j)
   receiver-at j z e = rw zero-add at (chain-before receiverCall receiverSlot nextSlot ReceivedBy (ReceiverAt q m) (receiver-keep q m) 0 (listening q m) launch _ launch-chain listening-at j z e)
@@ -232,20 +232,20 @@ module _ (q m : ℕ) (alphabet : isAlphabet q ≡ true) (order : isOrder m ≡ t
   zone-unmeasured j y message delivery e (afterMissed i f) = launch-zone (suc i) y message delivery e Missing (launch-reference i _ f)
   zone-unmeasured j y message delivery e (afterDoubtful i word f) = launch-zone (suc i) y message delivery e Missing (launch-reference i _ f)
 
-module _ (q m t : ℕ) (alphabet : isAlphabet q ≡ true) (order : isOrder m ≡ true) (sends : List Send) (calls : List ReceiverCall) where
+module _ (q m t : ℕ) (alphabet : isAlphabet q ≡ true) (variables : isVariables m ≡ true) (sends : List Send) (calls : List ReceiverCall) where
   abbrev strap′ : List SenderSlot
-  strap′ = strap q m alphabet order sends
+  strap′ = strap q m alphabet variables sends
 
   abbrev launch′ : List ReceiverSlot
-  launch′ = launch q m alphabet order calls
+  launch′ = launch q m alphabet variables calls
 
   -- the constant before slot j of the strap
   abbrev lastAt : ℕ → ℕ
-  lastAt j = senderBefore q m alphabet order sends j .last
+  lastAt j = senderBefore q m alphabet variables sends j .last
 
   module _ (j : ℕ) (x : SenderSlot) (y : List ℕ) (such : Such q m t strap′ launch′ j x y) where
     such-sent : SentFrom q m (lastAt j) x
-    such-sent = strap-sent q m alphabet order sends j x (such .sent)
+    such-sent = strap-sent q m alphabet variables sends j x (such .sent)
 
     such-read : (message : List ℕ) × (delivery : Delivery) × Accepted launch′ j y message delivery
     unfolding wordOf
@@ -255,10 +255,10 @@ module _ (q m t : ℕ) (alphabet : isAlphabet q ≡ true) (order : isOrder m ≡
         go none e w = absurd (Option·none-ne-some y w)
         go (some (read word message values)) e w =
             let h : word ≡ y = Option·some-injective word y w in
-            let (delivery, f) = launch-answer q m alphabet order calls j y message values (e ∙ ap (λ l. some (read l message values)) h) in
+            let (delivery, f) = launch-answer q m alphabet variables calls j y message values (e ∙ ap (λ l. some (read l message values)) h) in
             (message, delivery, f)
         go (some (doubtful word)) e w =
-            let no : isReadable q m y ≡ false = ap (isReadable q m) (sym (Option·some-injective word y w)) ∙ launch-doubtful q m alphabet order calls j word e in
+            let no : isReadable q m y ≡ false = ap (isReadable q m) (sym (Option·some-injective word y w)) ∙ launch-doubtful q m alphabet variables calls j word e in
             let yes : isReadable q m y ≡ true = light-readable q m t (alphabet-positive q alphabet) x (lastAt j) such-sent y (such .light) in
             let n : _≡_ {A = ℕ} 0 1 = cc in
             absurd (omega arith)
@@ -271,12 +271,12 @@ module _ (q m t : ℕ) (alphabet : isAlphabet q ≡ true) (order : isOrder m ≡
     module _ (message : List ℕ) (delivery : Delivery) (read : Accepted launch′ j y message delivery) where
       such-wrong : delivery .wrong ≡ altered q m t (at (x .word)) (at y)
       such-wrong =
-          launch-read q m alphabet order calls j y message delivery read .wrong
+          launch-read q m alphabet variables calls j y message delivery read .wrong
           ∙ light-distance q m t (alphabet-positive q alphabet) x (lastAt j) such-sent y (such .light)
 
       such-coefficient : (k : ℕ) → k < m → at message (suc k) ≡ at (x .message) (suc k)
       such-coefficient k l =
-          ap (λ b. at b (suc k)) (launch-read q m alphabet order calls j y message delivery read .message)
+          ap (λ b. at b (suc k)) (launch-read q m alphabet variables calls j y message delivery read .message)
           ∙ getD-set-other (nearMessage q m y) 0 (suc k) _ 0 (λ e. omega (arith, e))
           ∙ light-coefficient q m t (alphabet-positive q alphabet) x (lastAt j) such-sent y (such .light) k
 
@@ -291,28 +291,28 @@ module _ (q m t : ℕ) (alphabet : isAlphabet q ≡ true) (order : isOrder m ≡
       let c = (lastAt i + at (x .message) 0) % q in
       let f = such-sent (suc i) x′ y′ such′ in
       let zone : delivery .zone ≡ Known (subMod q (receiveConstant q m y′) (receiveConstant q m y)) =
-      zone-after q m alphabet order calls i y message₀ delivery₀ e₀ y′ message delivery e in
+      zone-after q m alphabet variables calls i y message₀ delivery₀ e₀ y′ message delivery e in
       let new : receiveConstant q m y′ ≡ ((c + d) % q + t) % q =
-      such-constant (suc i) x′ y′ such′ ∙ ap (λ l. ((l + d) % q + t) % q) (strap-last q m alphabet order sends i x (such .sent)) in
-      read-place q m _ (suc i) y′ message delivery (launch-read q m alphabet order calls (suc i) y′ message delivery e)
+      such-constant (suc i) x′ y′ such′ ∙ ap (λ l. ((l + d) % q + t) % q) (strap-last q m alphabet variables sends i x (such .sent)) in
+      read-place q m _ (suc i) y′ message delivery (launch-read q m alphabet variables calls (suc i) y′ message delivery e)
       ∙ ap zoneSymbol zone
       ∙ ap₂ (subMod q) new (such-constant i x y such)
       ∙ subMod-turned q c d t h (f .symbols .below 0 (omega arith))
 
   from-openings : WholeSessions q m t strap′ launch′ (senderAfter (fresh q m) sends) (receiverAfter (listening q m) calls)
   from-openings =
-      let s = sender-end q m alphabet order sends in
-      let r = receiver-end q m alphabet order calls in
+      let s = sender-end q m alphabet variables sends in
+      let r = receiver-end q m alphabet variables calls in
       record {
         accepted = such-read;
         wrong = such-wrong;
         coefficients = such-coefficient;
         place0 = such-place;
-        noZone = λ j y message delivery e. (unmeasured-zone q m alphabet order calls j y message delivery e, zone-unmeasured q m alphabet order calls j y message delivery e);
-        zone = zone-after q m alphabet order calls;
-        zonePlace = λ j y message delivery e. read-place q m _ j y message delivery (launch-read q m alphabet order calls j y message delivery e);
-        answers = launch-answer q m alphabet order calls;
-        time = λ j y message delivery e. launch-read q m alphabet order calls j y message delivery e .time;
+        noZone = λ j y message delivery e. (unmeasured-zone q m alphabet variables calls j y message delivery e, zone-unmeasured q m alphabet variables calls j y message delivery e);
+        zone = zone-after q m alphabet variables calls;
+        zonePlace = λ j y message delivery e. read-place q m _ j y message delivery (launch-read q m alphabet variables calls j y message delivery e);
+        answers = launch-answer q m alphabet variables calls;
+        time = λ j y message delivery e. launch-read q m alphabet variables calls j y message delivery e .time;
         apart = λ a b ha hb k l d u v y hy. never-both q m (alphabet-positive q alphabet) a b ha hb k l d u v (at y);
         senderSound = s .sound;
         receiverSound = r .sound;
@@ -334,7 +334,7 @@ pub whole-sessions : (q m : ℕ) (sender : Sender) (receiver : Receiver) → ope
     → (t : ℕ) → t < q → (sends : List Send) (calls : List ReceiverCall)
     → WholeSessions q m t (senderSlots sender sends) (receiverSlots receiver calls) (senderAfter sender sends) (receiverAfter receiver calls)
 whole-sessions q m sender receiver a b t l sends calls =
-    let (alphabet, order, e) = sender-opened q m sender a in
+    let (alphabet, variables, e) = sender-opened q m sender a in
     let (_, _, f) = receiver-opened q m receiver b in
     subst₂ (λ s r. WholeSessions q m t (senderSlots s sends) (receiverSlots r calls) (senderAfter s sends) (receiverAfter r calls)) e f
-    (from-openings q m t alphabet order sends calls)
+    (from-openings q m t alphabet variables sends calls)

@@ -10,7 +10,7 @@ use borrow.Author.Count.{below-more}
 use Rattle.code_theory.specs.Sum.{at}
 use Rattle.code_theory.specs.Code.{codeword}
 use Rattle.code_theory.proofs.CodeLaws.{symbolAt-ext, codeword-is}
-use Rattle.code_theory.proofs.QuestionLaws.{order-bounds}
+use Rattle.code_theory.proofs.QuestionLaws.{variables-bounds}
 use Rattle.code_theory.proofs.TurnLaws.{constant-set}
 use Rattle.encode_codeword.specs.Coded.{Fits, Written}
 use Rattle.session_sender.specs.Step.{Placed, Sendable}
@@ -44,16 +44,16 @@ copied-placed constant message w₀ w i h l e c = record { size = length-set w 0
         getD-set-other w 0 (suc k) constant 0 (λ e. omega (arith, e)) ∙ c .each (suc k) (omega (arith, e)) ∙ sym (getD-set-other message 0 (suc k) constant 0 (λ e. omega (arith, e)))
 
 pub message-fits : (q m constant : ℕ) (message word : List ℕ) → Sendable q m constant message word → (0 < length message) × (length message ≤ 9)
-message-fits q m constant message word s = (omega (arith, s .symbols .size), omega (arith, s .symbols .size, order-bounds m (s .order)))
+message-fits q m constant message word s = (omega (arith, s .symbols .size), omega (arith, s .symbols .size, variables-bounds m (s .variables)))
 
 -- the writer of codewords is given the copy, and leaves the word of the message with the constant
 module _ (q m constant placed : ℕ) (message word w₀ w : List ℕ) (s : Sendable q m constant message word) (p : Placed placed message w₀ w) where
   pub copy-fits : placed < q → length w₀ ≡ 9 → Fits q m w word
   copy-fits b e = record {
     alphabet = s .alphabet;
-    low = order-bounds m (s .order) .0;
-    order = order-bounds m (s .order) .1;
-    size = omega (arith, p .size, order-bounds m (s .order));
+    low = variables-bounds m (s .variables) .0;
+    variables = variables-bounds m (s .variables) .1;
+    size = omega (arith, p .size, variables-bounds m (s .variables));
     below = λ k l. rw (p .each k (omega (arith, s .symbols .size))) (constant-set q m placed message b (s .symbols) .below k l);
     room = omega (arith, s .size);
   }

@@ -6,7 +6,7 @@ use mathlib.Core.List.{List}
 use lib.ListN.{length, set}
 use Rattle.code_theory.specs.Sum.{at}
 use Rattle.code_theory.specs.Code.{Symbols}
-use Rattle.code_theory.specs.Question.{isAlphabet, isOrder}
+use Rattle.code_theory.specs.Question.{isAlphabet, isVariables}
 
 -- w′ is w with the message, its place 0 replaced by the constant, written over its front
 pub record Placed (constant : ℕ) (message w w′ : List ℕ) : Type 0 where
@@ -17,7 +17,7 @@ pub record Placed (constant : ℕ) (message w w′ : List ℕ) : Type 0 where
 -- the word of the message with this constant fits the word slice
 pub record Sendable (q m constant : ℕ) (message word : List ℕ) : Type 0 where
   pub alphabet : isAlphabet q ≡ true
-  pub order : isOrder m ≡ true
+  pub variables : isVariables m ≡ true
   pub below : constant < q
   pub symbols : Symbols q (suc m) message
   pub size : length word ≡ 2 ^ m

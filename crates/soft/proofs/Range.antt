@@ -84,6 +84,6 @@ range-more x i j k a b e f = and-swap (rangeTo x i) a b ∙ ap (λ t. t && b) e 
 pub range-span : (x : List Float) (n : ℕ) (a : Bool) → (rangeTo x 0 && a) ≡ rangeTo x n → n ≡ length x → a ≡ allInRange f32 x
 range-span x n a e f = ap (λ t. t && a) (range-none x) ∙ e ∙ range-all x n f
 
--- the number of samples of a known order
-pub order-size : (m n : ℕ) → m ≡ n → 2 ^ m ≡ 2 ^ n
-order-size m n e = ap (λ k. 2 ^ k) e
+-- the number of samples where m is known
+pub variables-size : (m n : ℕ) → m ≡ n → 2 ^ m ≡ 2 ^ n
+variables-size m n e = ap (λ k. 2 ^ k) e

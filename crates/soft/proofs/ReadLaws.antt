@@ -14,7 +14,7 @@ use lib.Seq.{take-suc, take-suc-set, take-length, getD-set-same, getD-set-other,
 use lib.Ieee.{Float}
 use Rattle.code_theory.proofs.EveryLaws.{every-no}
 use Rattle.code_theory.specs.Sum.{at, every}
-use Rattle.code_theory.specs.Question.{ask, isOrder, isMessageSize, accepted, refused, answer, after}
+use Rattle.code_theory.specs.Question.{ask, isVariables, isMessageSize, accepted, refused, answer, after}
 use Rattle.code_theory.proofs.SumLaws.{tabulate-is}
 use Rattle.soft_theory.specs.Numbers.{f32}
 use Rattle.soft_theory.specs.Complex.{Complex, sample}
@@ -143,7 +143,7 @@ copy-all to from i n e f g = sym (take-length to) ∙ ap (λ x. take x to) (f �
 module _ (m : ℕ) (message : List ℕ) (re im : List Float) (n : ℕ) (e : n ≡ sampleRefusal m (length message) re im) where
   pub read-first : (n ≡ 0 → ⊥) → n ≡ readRefusal f32 m message re im
   unfolding readRefusal sampleRefusal sliceRefusal isMessageSize ask
-  read-first h = go (isOrder m) (eqb (length message) (suc m)) (eqb (length re) (2 ^ m)) (eqb (length im) (2 ^ m)) (allInRange f32 re && allInRange f32 im) e
+  read-first h = go (isVariables m) (eqb (length message) (suc m)) (eqb (length re) (2 ^ m)) (eqb (length im) (2 ^ m)) (allInRange f32 re && allInRange f32 im) e
     where
       go : (a b c d f : Bool) → n ≡ ask a 2 (ask b 5 (ask c 7 (ask d 7 (ask f 10 0)))) → n ≡ ask a 2 (ask b 5 (ask c 7 (ask d 7 (ask f 10 (ask (allSure f32 m (sample f32 re im)) 11 0)))))
       go false b c d f e = e
@@ -155,7 +155,7 @@ module _ (m : ℕ) (message : List ℕ) (re im : List Float) (n : ℕ) (e : n �
 
   pub read-last : n ≡ 0 → ask (allSure f32 m (sample f32 re im)) 11 0 ≡ readRefusal f32 m message re im
   unfolding readRefusal sampleRefusal sliceRefusal isMessageSize ask
-  read-last h = go (isOrder m) (eqb (length message) (suc m)) (eqb (length re) (2 ^ m)) (eqb (length im) (2 ^ m)) (allInRange f32 re && allInRange f32 im) (sym e ∙ h)
+  read-last h = go (isVariables m) (eqb (length message) (suc m)) (eqb (length re) (2 ^ m)) (eqb (length im) (2 ^ m)) (allInRange f32 re && allInRange f32 im) (sym e ∙ h)
     where
       go : (a b c d f : Bool) → ask a 2 (ask b 5 (ask c 7 (ask d 7 (ask f 10 0)))) ≡ 0
           → ask (allSure f32 m (sample f32 re im)) 11 0 ≡ ask a 2 (ask b 5 (ask c 7 (ask d 7 (ask f 10 (ask (allSure f32 m (sample f32 re im)) 11 0)))))

@@ -9,8 +9,8 @@ use borrow.Author.Tests.{not-true, not-false, eqb-true, ltb-true, eq-eqb, ne-eqb
 use lib.Dec.{eqb, ltb}
 use lib.ListN.{length}
 use lib.Ieee.{Float}
-use Rattle.code_theory.specs.Question.{ask, isOrder}
-use Rattle.code_theory.proofs.QuestionLaws.{and-true, ask-yes, order-bounds}
+use Rattle.code_theory.specs.Question.{ask, isVariables}
+use Rattle.code_theory.proofs.QuestionLaws.{and-true, ask-yes, variables-bounds}
 use Rattle.soft_theory.specs.Numbers.{f32}
 use Rattle.soft_theory.specs.Complex.{Complex, sample}
 use Rattle.soft_theory.specs.Decision.{refused, decide}
@@ -64,11 +64,11 @@ module _ (m : ℕ) (re im : List Float) (t : Bool) (T : t ≡ (eqb (length re) (
 
 -- ---- one soft vote
 module _ (m k : ℕ) (re im : List Float) where
-  pub vote-order : isOrder m ≡ false → 2 ≡ voteRefusal f32 m k re im
+  pub vote-variables : isVariables m ≡ false → 2 ≡ voteRefusal f32 m k re im
   unfolding voteRefusal
-  vote-order e = no _ 2 _ e
+  vote-variables e = no _ 2 _ e
 
-  module _ (o : isOrder m ≡ true) (t : Bool) (T : t ≡ (eqb (length re) (2 ^ m) && eqb (length im) (2 ^ m))) where
+  module _ (o : isVariables m ≡ true) (t : Bool) (T : t ≡ (eqb (length re) (2 ^ m) && eqb (length im) (2 ^ m))) where
     pub vote-size : not t ≡ true → 7 ≡ voteRefusal f32 m k re im
     unfolding voteRefusal
     vote-size h = not-sized m re im t T h _ ∙ yes _ 2 _ o
@@ -97,7 +97,7 @@ module _ (m k : ℕ) (re im : List Float) where
       let (c, e) = ask-yes _ 6 _ e in
       let (d, e) = ask-yes _ 9 _ e in
       let (k-in, e) = ask-yes _ 11 _ e in
-      let (low, high) = order-bounds m a in
+      let (low, high) = variables-bounds m a in
       (record { low = low; high = high; reals = eqb-true _ _ b; imaginaries = eqb-true _ _ c }, ltb-true k m k-in)
 
   -- the answer by that number
@@ -124,15 +124,15 @@ four-given m k re im e n f h z g = vote-given m k re im n f h z (g ∙ ap (λ o.
 
 -- ---- the soft read
 module _ (m size : ℕ) (re im : List Float) where
-  pub read-order : isOrder m ≡ false → 2 ≡ sampleRefusal m size re im
+  pub read-variables : isVariables m ≡ false → 2 ≡ sampleRefusal m size re im
   unfolding sampleRefusal
-  read-order e = no _ 2 _ e
+  read-variables e = no _ 2 _ e
 
-  pub read-size : isOrder m ≡ true → (size ≡ m + 1 → ⊥) → 5 ≡ sampleRefusal m size re im
+  pub read-size : isVariables m ≡ true → (size ≡ m + 1 → ⊥) → 5 ≡ sampleRefusal m size re im
   unfolding sampleRefusal
   read-size e h = no _ 5 _ (ne-eqb size (suc m) (λ f. h (f ∙ sym (add-one m)))) ∙ yes _ 2 _ e
 
-  pub read-slices : isOrder m ≡ true → size ≡ m + 1 → (n : ℕ) → n ≡ sliceRefusal m re im → n ≡ sampleRefusal m size re im
+  pub read-slices : isVariables m ≡ true → size ≡ m + 1 → (n : ℕ) → n ≡ sliceRefusal m re im → n ≡ sampleRefusal m size re im
   unfolding sampleRefusal
   read-slices e s n f = f ∙ yes _ 5 _ (eq-eqb size (suc m) (s ∙ add-one m)) ∙ yes _ 2 _ e
 
@@ -143,5 +143,5 @@ module _ (m size : ℕ) (re im : List Float) where
       let (s, e) = ask-yes _ 4 _ e in
       let (b, e) = ask-yes _ 6 _ e in
       let (c, e) = ask-yes _ 6 _ e in
-      let (low, high) = order-bounds m a in
+      let (low, high) = variables-bounds m a in
       (record { low = low; high = high; reals = eqb-true _ _ b; imaginaries = eqb-true _ _ c }, eqb-true _ _ s)

@@ -7,7 +7,7 @@ use lib.Dec.{eqb}
 use lib.ListN.{length, getD}
 use lib.Ieee.{Float}
 use Rattle.code_theory.specs.Sum.{at, every}
-use Rattle.code_theory.specs.Question.{ask, isOrder}
+use Rattle.code_theory.specs.Question.{ask, isVariables}
 use Rattle.soft_theory.specs.Numbers.{f32}
 use Rattle.soft_theory.specs.Complex.{sample}
 use Rattle.soft_theory.specs.Decision.{Decision, decide, isSure}
@@ -27,7 +27,7 @@ sliceRefusal m re im =
 
 -- the questions of the soft read up to 10, for a message slice of so many symbols
 unfoldable pub sampleRefusal : ℕ → ℕ → List Float → List Float → ℕ
-sampleRefusal m size re im = ask (isOrder m) 2 (ask (eqb size (suc m)) 5 (sliceRefusal m re im))
+sampleRefusal m size re im = ask (isVariables m) 2 (ask (eqb size (suc m)) 5 (sliceRefusal m re im))
 
 -- whether the first k coefficients are sure
 unfoldable pub sureTo : ℕ → List Float → List Float → ℕ → Bool

@@ -188,7 +188,7 @@ pub votes-done : (m : ℕ) (re im : List Float) (k j : ℕ) (s : Complex Float) 
 unfolding votesOf sumsOf
 votes-done m re im k j s h e f = e ∙ votes-all f32 m k j (sample f32 re im) h f
 
--- ---- by the order
+-- ---- for each m
 pub samples-by : (m n : ℕ) (re im : List Float) → m ≡ n → Samples m re im → Samples n re im
 samples-by m n re im e s = rw e at s
 

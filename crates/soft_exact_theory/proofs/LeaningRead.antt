@@ -13,7 +13,7 @@ use Rattle.code_theory.proofs.EveryLaws.{every-of}
 use Rattle.code_theory.specs.Sum.{at}
 use Rattle.code_theory.specs.Index.{bit}
 use Rattle.code_theory.specs.Code.{linear}
-use Rattle.code_theory.specs.Question.{ask, isOrder, isMessageSize, accepted, answer, after}
+use Rattle.code_theory.specs.Question.{ask, isVariables, isMessageSize, accepted, answer, after}
 use Rattle.code_theory.proofs.SumLaws.{tabulate-is}
 use Rattle.code_theory.proofs.IndexLaws.{bit-low}
 use Rattle.soft_theory.specs.Numbers.{f32, integers}
@@ -67,7 +67,7 @@ module _ (m : ℕ) (s : ℕ → ℕ) (z : ℕ → Complex ℤ) (f : Leaning m s 
 
 no-refusal : (m : ℕ) (message : List ℕ) (zr zi : List ℤ) → 2 ≤ m → m ≤ 8 → length message ≡ suc m → length zr ≡ 2 ^ m → length zi ≡ 2 ^ m
     → allInRange integers zr ≡ true → allInRange integers zi ≡ true → allSure integers m (sample integers zr zi) ≡ true → readRefusal integers m message zr zi ≡ 0
-unfolding readRefusal isOrder isMessageSize ask
+unfolding readRefusal isVariables isMessageSize ask
 no-refusal m message zr zi l h M a b r i s =
     rw (le-leb 2 m l, le-leb m 8 h, eq-eqb (length message) (suc m) M, eq-eqb (length zr) (2 ^ m) a, eq-eqb (length zi) (2 ^ m) b, r, i, s)
 
@@ -86,7 +86,7 @@ leaning-read m t message re im zr zi l h T M R I a b r i f =
 
 no-vote-refusal : (m k : ℕ) (zr zi : List ℤ) → 2 ≤ m → m ≤ 8 → length zr ≡ 2 ^ m → length zi ≡ 2 ^ m → allInRange integers zr ≡ true → allInRange integers zi ≡ true → k < m
     → voteRefusal integers m k zr zi ≡ 0
-unfolding voteRefusal isOrder ask
+unfolding voteRefusal isVariables ask
 no-vote-refusal m k zr zi l h a b r i j = rw (le-leb 2 m l, le-leb m 8 h, eq-eqb (length zr) (2 ^ m) a, eq-eqb (length zi) (2 ^ m) b, r, i, lt-ltb k m j)
 
 -- LEANING VOTE: and each of their votes is sure of its symbol

@@ -11,9 +11,9 @@ use lib.ListN.{length, getD}
 use lib.Ieee.{Float}
 use Rattle.code_theory.proofs.EveryLaws.{every-at, every-ext}
 use Rattle.code_theory.specs.Sum.{tabulate, every}
-use Rattle.code_theory.specs.Question.{ask, isOrder, isMessageSize, answer, after}
+use Rattle.code_theory.specs.Question.{ask, isVariables, isMessageSize, answer, after}
 use Rattle.code_theory.proofs.SumLaws.{tabulate-length, tabulate-at, tabulate-is}
-use Rattle.code_theory.proofs.QuestionLaws.{and-true, ask-yes, order-bounds}
+use Rattle.code_theory.proofs.QuestionLaws.{and-true, ask-yes, variables-bounds}
 use Rattle.soft_theory.specs.Numbers.{f32, integers}
 use Rattle.soft_theory.specs.Complex.{Complex, sample}
 use Rattle.soft_theory.specs.Decision.{decide, symbol}
@@ -53,7 +53,7 @@ record Samples (m : ℕ) (y : ℕ → Complex Float) (z : ℕ → Complex ℤ) :
   whole : (i : ℕ) → i < 2 ^ m → WholeParts (y i) (z i)
   within : (i : ℕ) → i < 2 ^ m → Within 127 (z i)
 
-samples : (m : ℕ) (re im : List Float) (zr zi : List ℤ) → Wholes re zr → Wholes im zi → isOrder m ≡ true → eqb (length zr) (2 ^ m) ≡ true → eqb (length zi) (2 ^ m) ≡ true
+samples : (m : ℕ) (re im : List Float) (zr zi : List ℤ) → Wholes re zr → Wholes im zi → isVariables m ≡ true → eqb (length zr) (2 ^ m) ≡ true → eqb (length zi) (2 ^ m) ≡ true
     → (allInRange integers zr && allInRange integers zi) ≡ true → Samples m (sample f32 re im) (sample integers zr zi)
 unfolding sample
 samples m re im zr zi R I o a b r =
@@ -61,7 +61,7 @@ samples m re im zr zi R I o a b r =
     let A : length zr ≡ 2 ^ m = eqb-true _ _ a in
     let B : length zi ≡ 2 ^ m = eqb-true _ _ b in
     record {
-      small = order-bounds m o .1;
+      small = variables-bounds m o .1;
       whole = λ i l. record { re = R .each i (omega (arith, R .long)); im = I .each i (omega (arith, I .long)) };
       within = λ i l. record { re = all-range-within zr rr i (omega arith); im = all-range-within zi ri i (omega arith) };
     }
@@ -140,7 +140,7 @@ module _ (m : ℕ) (re im : List Float) (zr zi : List ℤ) (R : Wholes re zr) (I
   unfolding readRefusal
   read-refusal-same message =
       rw (same-re, same-im, same-range)
-      (ask-when (isOrder m) 2 _ _ (λ o. ask-when (isMessageSize m message) 5 _ _ (λ l. ask-when (eqb (length zr) (2 ^ m)) 7 _ _ (λ a. ask-when (eqb (length zi) (2 ^ m)) 7 _ _ (λ b.
+      (ask-when (isVariables m) 2 _ _ (λ o. ask-when (isMessageSize m message) 5 _ _ (λ l. ask-when (eqb (length zr) (2 ^ m)) 7 _ _ (λ a. ask-when (eqb (length zi) (2 ^ m)) 7 _ _ (λ b.
       ask-when (allInRange integers zr && allInRange integers zi) 10 _ _ (λ r. ap (λ t. ask t 11 0) (sure-same m _ _ (samples m re im zr zi R I o a b r))))))))
 
   read-samples : (message : List ℕ) → readRefusal integers m message zr zi ≡ 0 → Samples m (sample f32 re im) (sample integers zr zi)

@@ -7,7 +7,7 @@ use lib.ListN.{length, getD}
 use Rattle.code_theory.specs.Sum.{every, tabulate}
 use Rattle.code_theory.specs.Index.{bit}
 use Rattle.code_theory.specs.Code.{linear, codeword}
-use Rattle.code_theory.specs.Question.{ask, isOrder, isMessageSize, Answer, answer, after}
+use Rattle.code_theory.specs.Question.{ask, isVariables, isMessageSize, Answer, answer, after}
 use Rattle.soft_theory.specs.Numbers.{Numbers}
 use Rattle.soft_theory.specs.Complex.{Complex, sample, term, turnBack, sums, ideal}
 use Rattle.soft_theory.specs.Decision.{Decision, refused, decide, isSure, symbol}
@@ -47,7 +47,7 @@ allSure N m y = every (suc m) (λ k. isSure (decision N m y k))
 -- one soft vote asks 2, 7, 10, 12
 unfoldable pub voteRefusal : {A : Type 0} → Numbers A → ℕ → ℕ → List A → List A → ℕ
 voteRefusal N m k re im =
-    ask (isOrder m) 2
+    ask (isVariables m) 2
     (ask (eqb (length re) (2 ^ m)) 7
     (ask (eqb (length im) (2 ^ m)) 7
     (ask (allInRange N re && allInRange N im) 10
@@ -66,7 +66,7 @@ softVote N m k re im = voteAnswer (voteRefusal N m k re im) (decide N (voteSums 
 -- soft read asks 2, 5, 7, 10, 11
 unfoldable pub readRefusal : {A : Type 0} → Numbers A → ℕ → List ℕ → List A → List A → ℕ
 readRefusal N m message re im =
-    ask (isOrder m) 2
+    ask (isVariables m) 2
     (ask (isMessageSize m message) 5
     (ask (eqb (length re) (2 ^ m)) 7
     (ask (eqb (length im) (2 ^ m)) 7

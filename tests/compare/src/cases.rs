@@ -53,8 +53,8 @@ impl Random {
     }
 }
 
-/// Orders that no code has, with the neighbours of 2, 4 and 8 and numbers that wrap to them.
-const BAD_ORDERS: [u32; 20] =
+/// Sizes that no alphabet has, with the neighbours of 2, 4 and 8 and numbers that wrap to them.
+const BAD_ALPHABETS: [u32; 20] =
     [0, 1, 3, 5, 6, 7, 9, 10, 12, 16, 32, 64, 256, 258, 260, 65_544, 1 << 31, (1 << 31) + 4, u32::MAX - 1, u32::MAX];
 
 /// Values of m that no code has, with the neighbours of 2 and 8 and numbers that wrap to 2 to 8.
@@ -102,9 +102,9 @@ fn faults(random: &mut Random) -> [bool; 5] {
 }
 
 fn spoil(random: &mut Random, faults: [bool; 5], case: &mut Case) {
-    let [order, m, _, message, word] = faults;
-    if order {
-        case.q = other_number(random, &BAD_ORDERS, &model::ORDERS);
+    let [alphabet, m, _, message, word] = faults;
+    if alphabet {
+        case.q = other_number(random, &BAD_ALPHABETS, &model::ALPHABETS);
     }
     if m {
         case.m = other_number(random, &BAD_M, &[2, 3, 4, 5, 6, 7, 8]);

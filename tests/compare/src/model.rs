@@ -4,8 +4,8 @@
 //! vote; `read_by_votes` takes the winners of the votes and recounts the distance. Codes with few messages are read
 //! in both ways, and the two must agree.
 
-/// The orders of the alphabet, and the least and the greatest m.
-pub const ORDERS: [u32; 3] = [2, 4, 8];
+/// The sizes of the alphabets, and the least and the greatest m.
+pub const ALPHABETS: [u32; 3] = [2, 4, 8];
 pub const LEAST_M: u32 = 2;
 pub const GREATEST_M: u32 = 8;
 
@@ -24,7 +24,7 @@ pub struct Reading {
 
 /// All 21 codes, as (q, m).
 pub fn codes() -> Vec<(u32, u32)> {
-    ORDERS.iter().flat_map(|&q| (LEAST_M..=GREATEST_M).map(move |m| (q, m))).collect()
+    ALPHABETS.iter().flat_map(|&q| (LEAST_M..=GREATEST_M).map(move |m| (q, m))).collect()
 }
 
 /// The number of messages of a code: q^(m + 1).
@@ -213,14 +213,14 @@ impl Model {
 /// Questions 1 and 2.
 pub fn answer_code(q: u32, m: u32) -> Result<(), u32> {
     yes(is_alphabet(q), 1)?;
-    yes(is_order(m), 2)
+    yes(is_variables(m), 2)
 }
 
 pub fn is_alphabet(q: u32) -> bool {
-    ORDERS.contains(&q)
+    ALPHABETS.contains(&q)
 }
 
-pub fn is_order(m: u32) -> bool {
+pub fn is_variables(m: u32) -> bool {
     (LEAST_M..=GREATEST_M).contains(&m)
 }
 

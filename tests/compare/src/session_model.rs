@@ -140,7 +140,7 @@ impl Receiver {
 /// Question 3, part by part. `fresh` says that there is nothing that a slot would have left.
 fn unsound(q: u32, m: u32, constant: Option<u8>, used: u32, fresh: bool) -> Unsound {
     let too_large = constant.is_some_and(|constant| u32::from(constant) >= q);
-    [!model::is_alphabet(q), !model::is_order(m), too_large, used > SLOTS, used == 0 && !fresh]
+    [!model::is_alphabet(q), !model::is_variables(m), too_large, used > SLOTS, used == 0 && !fresh]
 }
 
 /// Questions 3 and 4.

@@ -1,6 +1,6 @@
 //! The second implementation of the soft samples, in the numbers of `Number`: f32, and integers for whole samples.
 
-use crate::model::{is_order, yes};
+use crate::model::{is_variables, yes};
 
 /// The operations that the document uses.
 pub trait Number: Copy + PartialOrd {
@@ -139,7 +139,7 @@ pub fn sound_read<N: Number>(m: u32, re: &[N], im: &[N]) -> Option<Vec<u8>> {
 
 /// The vote, or the number of the first question answered no: 2, 7, 10, 12.
 pub fn vote(m: u32, k: u32, re: &[f32], im: &[f32]) -> Result<Vote, u32> {
-    yes(is_order(m), 2)?;
+    yes(is_variables(m), 2)?;
     answer_samples(m, re, im)?;
     yes(k < m, 12)?;
     Ok(sound_vote(k, re, im))
@@ -147,7 +147,7 @@ pub fn vote(m: u32, k: u32, re: &[f32], im: &[f32]) -> Result<Vote, u32> {
 
 /// The message, or the number of the first question answered no: 2, 5, 7, 10, 11.
 pub fn read(m: u32, message_len: usize, re: &[f32], im: &[f32]) -> Result<Vec<u8>, u32> {
-    yes(is_order(m), 2)?;
+    yes(is_variables(m), 2)?;
     yes(message_len == m as usize + 1, 5)?;
     answer_samples(m, re, im)?;
     sound_read(m, re, im).ok_or(11)

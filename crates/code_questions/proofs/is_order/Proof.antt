@@ -1,16 +1,16 @@
--- `is_order` meets its contract, by the tests that led to each answer.
+-- `is_variables` meets its contract, by the tests that led to each answer.
 use borrow.Author.Tests.{le-leb, lt-leb}
-use Rattle.code_theory.specs.Question.{isOrder}
-use Rattle.code_questions.proofs.is_order.Statement.{statement}
-use Rattle.code_questions.proofs.is_order.Tie as tie
+use Rattle.code_theory.specs.Question.{isVariables}
+use Rattle.code_questions.proofs.is_variables.Statement.{statement}
+use Rattle.code_questions.proofs.is_variables.Tie as tie
 
 returns : tie.Need-returns
-unfolding isOrder
+unfolding isVariables
 returns c = simp (le-leb _ _ (c .if1 .taken))
 
 returns-2 : tie.Need-returns-2
-unfolding isOrder
+unfolding isVariables
 returns-2 c = simp (lt-leb _ _ (c .if1 .left))
 
-pub is-order-spec : {M : Type 1} → statement M
-is-order-spec = tie.close (tie.spec returns returns-2)
+pub is-variables-spec : {M : Type 1} → statement M
+is-variables-spec = tie.close (tie.spec returns returns-2)

@@ -4,8 +4,8 @@ use mathlib.Core.Bool.{true}
 use native.Mathlib.Omega.{arith}
 use borrow.Author.Needs.{needs}
 use borrow.Author.Tests.{not-true, not-false}
-use Rattle.code_theory.specs.Question.{isAlphabet, isOrder}
-use Rattle.encode_by_length.proofs.EncodeLaws.{alphabet-no, in-order}
+use Rattle.code_theory.specs.Question.{isAlphabet, isVariables}
+use Rattle.encode_by_length.proofs.EncodeLaws.{alphabet-no, with-variables}
 use Rattle.encode_by_length.proofs.write_any.Statement.{statement}
 use Rattle.encode_by_length.proofs.write_any.Tie as tie
 
@@ -19,14 +19,14 @@ returns : tie.Need-returns
 returns c = alphabet-no _ _ _ _ (sym (c .before .is-alphabet .ensures) ∙ not-true _ (c .if1 .taken))
 
 write-sized-requires : tie.Need-write-sized-requires
-unfolding isOrder
+unfolding isVariables
 write-sized-requires c κs = (alphabet (c .before .before), refl)
 
 same-length : tie.Need-same-length
 same-length c = search needs
 
 returns-2 : tie.Need-returns-2
-returns-2 c = in-order _ (c .before .before .before .before .before .before .before .before .before .args .m) 6 _ _ _ _ (omega arith) (c .before .before .write-sized .ensures)
+returns-2 c = with-variables _ (c .before .before .before .before .before .before .before .before .before .args .m) 6 _ _ _ _ (omega arith) (c .before .before .write-sized .ensures)
 
 write-2-or-3-requires : tie.Need-write-2-or-3-requires
 write-2-or-3-requires c κs = (alphabet (c .before .before .before), omega arith)

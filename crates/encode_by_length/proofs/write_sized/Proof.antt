@@ -5,7 +5,7 @@ use borrow.Author.Needs.{needs}
 use borrow.Author.Tests.{not-true, not-false}
 use Rattle.code_theory.specs.Question.{isMessageSize, allBelow}
 use Rattle.code_theory.proofs.CodeLaws.{codeword-is}
-use Rattle.code_theory.proofs.QuestionLaws.{order-bounds, message-yes, message-no, word-yes, word-no}
+use Rattle.code_theory.proofs.QuestionLaws.{variables-bounds, message-yes, message-no, word-yes, word-no}
 use Rattle.encode_by_length.specs.Encoder.{encodeRefusal}
 use Rattle.encode_by_length.proofs.EncodeLaws.{size-no, below-no, word-no-room, all-yes, all-fits, word-written}
 use Rattle.encode_by_length.proofs.write_sized.Statement.{statement}
@@ -35,7 +35,7 @@ returns c =
 message-below-requires : tie.Need-message-below-requires
 message-below-requires c κs =
     let s = c .before .before .before in
-    let (low, high) = order-bounds _ (s .pre .1) in
+    let (low, high) = variables-bounds _ (s .pre .1) in
     (s .pre .0, low, high, c .if1 .left)
 
 returns-2 : tie.Need-returns-2
@@ -44,7 +44,7 @@ returns-2 c =
     below-no _ _ _ _ (s .pre .0) (s .pre .1) (size (c .before .before)) (sym (c .before .message-below .ensures) ∙ not-true _ (c .if2 .taken))
 
 pow2-requires : tie.Need-pow2-requires
-pow2-requires c κs = order-bounds _ (c .before .before .before .before .before .pre .1) .1
+pow2-requires c κs = variables-bounds _ (c .before .before .before .before .before .pre .1) .1
 
 returns-3 : tie.Need-returns-3
 returns-3 c =

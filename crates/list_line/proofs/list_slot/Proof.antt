@@ -28,7 +28,7 @@ list-word-requires c κs =
     let w = c .before .before .before in
     let p = w .before .before .before .before .before .before .pre .0 in
     let e = w .with-code .ensures in
-    (record { alphabet = ap (λ r. r .q) e ∙ p .alphabet; order = ap (λ r. r .m) e ∙ p .order; room = p .room }, refl)
+    (record { alphabet = ap (λ r. r .q) e ∙ p .alphabet; variables = ap (λ r. r .m) e ∙ p .variables; room = p .room }, refl)
 
 same-length : tie.Need-same-length
 same-length c = search needs

@@ -21,7 +21,7 @@ rate-of-requires c κs =
     let s = r .before .before .before .before .before in
     let e = r .receive .ensures in
     ap unpackRefusal (e .1 .1)
-    ∙ unpacks (s .args .receiver) _ _ (s .pre .0 .alphabet) (s .pre .0 .order) (read-number (s .args .receiver) _ _ _ (s .pre .1) (e .0) (e .1 .0) _ _ (n .next .given .1))
+    ∙ unpacks (s .args .receiver) _ _ (s .pre .0 .alphabet) (s .pre .0 .variables) (read-number (s .args .receiver) _ _ _ (s .pre .1) (e .0) (e .1 .0) _ _ (n .next .given .1))
 
 put-reading-requires : tie.Need-put-reading-requires
 put-reading-requires c κs = search needs

@@ -23,7 +23,7 @@ list-slot-requires c κs =
     let i = c .before .before in
     let h = i .before in
     let s = h .before .before .before .before .before in (
-      record { alphabet = s .pre .fit .alphabet; order = s .pre .fit .order; room = s .pre .room },
+      record { alphabet = s .pre .fit .alphabet; variables = s .pre .fit .variables; room = s .pre .room },
       slot-ends (s .args .bytes .now) (sym (h .has-slot .ensures) ∙ i .if2 .taken) .2,
     )
 

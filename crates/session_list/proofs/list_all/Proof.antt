@@ -33,7 +33,7 @@ loop-holds c =
     let r = c .before .before .read .ensures in
     let e = c .before .before .before .before .start .ensures in
     let s = c .before .before .before .before .before .before .before .before in (
-      record { alphabet = ap (λ r. r .q) (e .0); order = ap (λ r. r .m) (e .0); kept = omega (arith, e .1); size = s .pre .0 },
+      record { alphabet = ap (λ r. r .q) (e .0); variables = ap (λ r. r .m) (e .0); kept = omega (arith, e .1); size = s .pre .0 },
       refl,
       refl,
       s .pre .1,

@@ -1,26 +1,26 @@
 -- `vote_refusal` meets its contract, by the tests that led to each answer.
 use mathlib.Core.Path.{sym, _∙_}
 use borrow.Author.Tests.{not-true, not-false}
-use Rattle.code_theory.proofs.QuestionLaws.{order-bounds}
-use Rattle.soft.proofs.Refusals.{sizes, vote-order, vote-size, vote-range, vote-no, vote-yes}
+use Rattle.code_theory.proofs.QuestionLaws.{variables-bounds}
+use Rattle.soft.proofs.Refusals.{sizes, vote-variables, vote-size, vote-range, vote-no, vote-yes}
 use borrow.Author.Needs.{needs}
 use Rattle.soft.proofs.vote_refusal.Statement.{statement}
 use Rattle.soft.proofs.vote_refusal.Tie as tie
 
-is-order-requires : tie.Need-is-order-requires
-is-order-requires c κs = search needs
+is-variables-requires : tie.Need-is-variables-requires
+is-variables-requires c κs = search needs
 
 returns : tie.Need-returns
-returns c = vote-order _ _ _ _ (sym (c .before .is-order .ensures) ∙ not-true _ (c .if1 .taken))
+returns c = vote-variables _ _ _ _ (sym (c .before .is-variables .ensures) ∙ not-true _ (c .if1 .taken))
 
 are-sized-requires : tie.Need-are-sized-requires
-are-sized-requires c κs = order-bounds _ (sym (c .before .is-order .ensures) ∙ not-false _ (c .if1 .left)) .1
+are-sized-requires c κs = variables-bounds _ (sym (c .before .is-variables .ensures) ∙ not-false _ (c .if1 .left)) .1
 
 returns-2 : tie.Need-returns-2
 returns-2 c =
     let t = c .before in
     let o = t .before in
-    vote-size _ _ _ _ (sym (o .before .is-order .ensures) ∙ not-false _ (o .if1 .left)) (t .are-sized .result) (t .are-sized .ensures) (c .if2 .taken)
+    vote-size _ _ _ _ (sym (o .before .is-variables .ensures) ∙ not-false _ (o .if1 .left)) (t .are-sized .result) (t .are-sized .ensures) (c .if2 .taken)
 
 few-in-range-requires : tie.Need-few-in-range-requires
 few-in-range-requires c κs =
@@ -34,7 +34,7 @@ returns-3 c =
     let i = b .before in
     let t = i .before in
     let o = t .before in
-    vote-range _ _ _ _ (sym (o .before .is-order .ensures) ∙ not-false _ (o .if1 .left)) (t .are-sized .result) (t .are-sized .ensures) (i .if2 .left) (b .few-in-range .result) (b .few-in-range .ensures) (c .if3 .taken)
+    vote-range _ _ _ _ (sym (o .before .is-variables .ensures) ∙ not-false _ (o .if1 .left)) (t .are-sized .result) (t .are-sized .ensures) (i .if2 .left) (b .few-in-range .result) (b .few-in-range .ensures) (c .if3 .taken)
 
 returns-4 : tie.Need-returns-4
 returns-4 c =
@@ -43,7 +43,7 @@ returns-4 c =
     let i = b .before in
     let t = i .before in
     let o = t .before in
-    vote-no _ _ _ _ (sym (o .before .is-order .ensures) ∙ not-false _ (o .if1 .left)) (t .are-sized .result) (t .are-sized .ensures) (i .if2 .left) (b .few-in-range .result) (b .few-in-range .ensures) (j .if3 .left) (c .if4 .taken)
+    vote-no _ _ _ _ (sym (o .before .is-variables .ensures) ∙ not-false _ (o .if1 .left)) (t .are-sized .result) (t .are-sized .ensures) (i .if2 .left) (b .few-in-range .result) (b .few-in-range .ensures) (j .if3 .left) (c .if4 .taken)
 
 returns-5 : tie.Need-returns-5
 returns-5 c =
@@ -52,13 +52,13 @@ returns-5 c =
     let i = b .before in
     let t = i .before in
     let o = t .before in
-    vote-yes _ _ _ _ (sym (o .before .is-order .ensures) ∙ not-false _ (o .if1 .left)) (t .are-sized .result) (t .are-sized .ensures) (i .if2 .left) (b .few-in-range .result) (b .few-in-range .ensures) (j .if3 .left) (c .if4 .left)
+    vote-yes _ _ _ _ (sym (o .before .is-variables .ensures) ∙ not-false _ (o .if1 .left)) (t .are-sized .result) (t .are-sized .ensures) (i .if2 .left) (b .few-in-range .result) (b .few-in-range .ensures) (j .if3 .left) (c .if4 .left)
 
 pub vote-refusal-spec : {M : Type 1} → statement M
 vote-refusal-spec =
     tie.close
     (tie.spec
-    is-order-requires
+    is-variables-requires
     returns
     are-sized-requires
     returns-2
