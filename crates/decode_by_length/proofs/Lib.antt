@@ -1,4 +1,4 @@
-pub mod StandingLaws
+pub mod FirstLaws
 pub mod ConstantLaws
 pub mod LongLaws
 pub mod ReadLaws

@@ -1,1 +1,1 @@
-pub mod Elected
+pub mod Winning

@@ -1,1 +1,1 @@
-pub mod RaceLaws
+pub mod WinnerLaws

@@ -1,1 +1,1 @@
-pub mod Race
+pub mod Winner

@@ -1,4 +1,4 @@
--- The small steps of a guess: shifted lanes, what is left of a word, and the symbol that most lanes are. Assumes nothing.
+-- The small steps to a candidate: shifted lanes, what is left of a word, and the symbol that most lanes are. Assumes nothing.
 use Prim.Native.Nat.{ℕ, _+_, _*_, _-_, _/_, _%_, _^_, _≤_, _<_}
 use mathlib.Core.Path.{_≡_, refl, ap, sym, _∙_}
 use mathlib.Core.Logic.{inl, inr}
@@ -22,7 +22,7 @@ use Rattle.swar_lanes.specs.Lane.{offset, Lanes, Below}
 use Rattle.swar_lanes.specs.Ballot.{laneBit}
 use Rattle.decode_short_errors.specs.Places.{plain}
 use Rattle.swar_majority.specs.Most.{Most}
-use Rattle.decode_short_candidate.specs.Guess.{Rest, Chosen}
+use Rattle.decode_short_candidate.specs.Candidate.{Rest, Chosen}
 
 -- a word of coefficients, and what is left without it
 pub rest-is : (q x c0 c1 c2 c3 code d : ℕ) → Lanes code (λ t. plain q c0 c1 c2 c3 (offset t))

@@ -17,7 +17,7 @@ use Rattle.code_theory.proofs.EveryLaws.{every-at}
 use Rattle.swar_theory.specs.Digit.{digit}
 use Rattle.swar_theory.proofs.DigitLaws.{digit-down}
 use Rattle.swar_lanes.specs.Lane.{offset, laneOf, Held}
-use Rattle.swar_lanes.specs.Ballot.{laneBit, Ahead}
+use Rattle.swar_lanes.specs.Ballot.{laneBit, VotesIn}
 use Rattle.swar_lanes.proofs.LaneLaws.{lane-lt, lane-place}
 use Rattle.swar_lanes.proofs.SpotLaws.{lane-up}
 use Rattle.swar_majority.specs.Most.{threeOf, sevenOf}
@@ -35,7 +35,7 @@ pub held-at : (w : List ℕ) (i x : ℕ) → Held w i x → (j : ℕ) → j < 16
 held-at w i x held j h = held (laneOf j) (lane-lt j h) ∙ ap (λ z. at w (i + z)) (lane-place j h)
 
 -- A VOTE in its lane
-pub vote-at : (q k x d : ℕ) (w : List ℕ) (i : ℕ) → k < 4 → Ahead q k x d → Held w i x → (j : ℕ) → j < 16 → bit k j ≡ 0 → digit 4 d (laneOf j) ≡ vote q k (at w) (i + j)
+pub vote-at : (q k x d : ℕ) (w : List ℕ) (i : ℕ) → k < 4 → VotesIn q k x d → Held w i x → (j : ℕ) → j < 16 → bit k j ≡ 0 → digit 4 d (laneOf j) ≡ vote q k (at w) (i + j)
 unfolding vote
 vote-at q k x d w i hk votes held j h z =
     let (u, e) = lane-up k (laneOf j) hk (lane-lt j h) (lane-bit k j hk h ∙ z) in

@@ -1,3 +1,3 @@
 pub mod LaneVotes
 pub mod ChoiceLaws
-pub mod GuessLaws
+pub mod CandidateLaws

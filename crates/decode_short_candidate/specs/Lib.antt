@@ -1,1 +1,1 @@
-pub mod Guess
+pub mod Candidate

@@ -8,7 +8,7 @@ ghost use Rattle.code_theory.specs.Question.{isAlphabet};
 ghost use Rattle.swar_lanes.specs.Lane.{Below};
 ghost use Rattle.swar_lanes.specs.Ballot.{laneBit};
 ghost use Rattle.swar_majority.specs.Most.{threeOf, sevenOf, fifteenOf};
-ghost use Rattle.decode_short_candidate.specs.Guess.{Rest, Chosen, message, GuessOf, GuessOfBoth};
+ghost use Rattle.decode_short_candidate.specs.Candidate.{Rest, Chosen, message, CandidateOf, CandidateOfBoth};
 
 // What is left of a word when the word of four coefficients is taken out: the votes for the constant.
 fn rest(q: u64, x: u64, c0: u64, c1: u64, c2: u64, c3: u64) -> u64
@@ -71,7 +71,7 @@ fn fifteen(q: u64, d: u64, e: u64, i: u32, j: u32, k: u32) -> u64
 }
 
 // The constant and the coefficients of a message; those from m on are 0.
-pub struct Guess {
+pub struct Candidate {
     pub constant: u64,
     pub c0: u64,
     pub c1: u64,
@@ -80,14 +80,14 @@ pub struct Guess {
     pub c4: u64,
 }
 
-// The guess of a word of 4 places: one vote for each coefficient, and place 0 is the constant.
-pub fn guess_4(q: u64, x: u64) -> Guess
+// The candidate of a word of 4 places: one vote for each coefficient, and place 0 is the constant.
+pub fn candidate_4(q: u64, x: u64) -> Candidate
     requires { ⌜ (isAlphabet q ≡ true) × Below q x ⌝ }
-    ensures { λ r. ⌜ (r .c2 ≡ 0) × (r .c3 ≡ 0) × (r .c4 ≡ 0) × GuessOf q 2 x (message (r .constant) (r .c0) (r .c1) (r .c2) (r .c3) (r .c4)) ⌝ }
+    ensures { λ r. ⌜ (r .c2 ≡ 0) × (r .c3 ≡ 0) × (r .c4 ≡ 0) × CandidateOf q 2 x (message (r .constant) (r .c0) (r .c1) (r .c2) (r .c3) (r .c4)) ⌝ }
 {
-    let c0 = symbol(q, swar_lanes::ahead(q, 0, x));
-    let c1 = symbol(q, swar_lanes::ahead(q, 1, x));
-    Guess {
+    let c0 = symbol(q, swar_lanes::votes_in(q, 0, x));
+    let c1 = symbol(q, swar_lanes::votes_in(q, 1, x));
+    Candidate {
         constant: symbol(q, x),
         c0,
         c1,
@@ -97,16 +97,16 @@ pub fn guess_4(q: u64, x: u64) -> Guess
     }
 }
 
-// The guess of a word of 8 places: three of four votes for each coefficient, and three of eight for the constant.
-pub fn guess_8(q: u64, x: u64) -> Guess
+// The candidate of a word of 8 places: three of four votes for each coefficient, and three of eight for the constant.
+pub fn candidate_8(q: u64, x: u64) -> Candidate
     requires { ⌜ (isAlphabet q ≡ true) × Below q x ⌝ }
-    ensures { λ r. ⌜ (r .c3 ≡ 0) × (r .c4 ≡ 0) × GuessOf q 3 x (message (r .constant) (r .c0) (r .c1) (r .c2) (r .c3) (r .c4)) ⌝ }
+    ensures { λ r. ⌜ (r .c3 ≡ 0) × (r .c4 ≡ 0) × CandidateOf q 3 x (message (r .constant) (r .c0) (r .c1) (r .c2) (r .c3) (r .c4)) ⌝ }
 {
-    let c0 = three(q, swar_lanes::ahead(q, 0, x), 1, 2);
-    let c1 = three(q, swar_lanes::ahead(q, 1, x), 0, 2);
-    let c2 = three(q, swar_lanes::ahead(q, 2, x), 0, 1);
+    let c0 = three(q, swar_lanes::votes_in(q, 0, x), 1, 2);
+    let c1 = three(q, swar_lanes::votes_in(q, 1, x), 0, 2);
+    let c2 = three(q, swar_lanes::votes_in(q, 2, x), 0, 1);
     let left = rest(q, x, c0, c1, c2, 0);
-    Guess {
+    Candidate {
         constant: three(q, left, 0, 1),
         c0,
         c1,
@@ -116,17 +116,17 @@ pub fn guess_8(q: u64, x: u64) -> Guess
     }
 }
 
-// The guess of a word of 16 places: seven of eight votes for each coefficient, and seven of sixteen for the constant.
-pub fn guess_16(q: u64, x: u64) -> Guess
+// The candidate of a word of 16 places: seven of eight votes for each coefficient, and seven of sixteen for the constant.
+pub fn candidate_16(q: u64, x: u64) -> Candidate
     requires { ⌜ (isAlphabet q ≡ true) × Below q x ⌝ }
-    ensures { λ r. ⌜ (r .c4 ≡ 0) × GuessOf q 4 x (message (r .constant) (r .c0) (r .c1) (r .c2) (r .c3) (r .c4)) ⌝ }
+    ensures { λ r. ⌜ (r .c4 ≡ 0) × CandidateOf q 4 x (message (r .constant) (r .c0) (r .c1) (r .c2) (r .c3) (r .c4)) ⌝ }
 {
-    let c0 = seven(q, swar_lanes::ahead(q, 0, x), 1, 2, 3);
-    let c1 = seven(q, swar_lanes::ahead(q, 1, x), 0, 2, 3);
-    let c2 = seven(q, swar_lanes::ahead(q, 2, x), 0, 1, 3);
-    let c3 = seven(q, swar_lanes::ahead(q, 3, x), 0, 1, 2);
+    let c0 = seven(q, swar_lanes::votes_in(q, 0, x), 1, 2, 3);
+    let c1 = seven(q, swar_lanes::votes_in(q, 1, x), 0, 2, 3);
+    let c2 = seven(q, swar_lanes::votes_in(q, 2, x), 0, 1, 3);
+    let c3 = seven(q, swar_lanes::votes_in(q, 3, x), 0, 1, 2);
     let left = rest(q, x, c0, c1, c2, c3);
-    Guess {
+    Candidate {
         constant: seven(q, left, 0, 1, 2),
         c0,
         c1,
@@ -136,39 +136,39 @@ pub fn guess_16(q: u64, x: u64) -> Guess
     }
 }
 
-// The guess of a word of 32 places: fifteen of sixteen votes for each coefficient, and fifteen of the first sixteen for the constant.
-pub fn guess_32(q: u64, x: u64, y: u64) -> Guess
+// The candidate of a word of 32 places: fifteen of sixteen votes for each coefficient, and fifteen of the first sixteen for the constant.
+pub fn candidate_32(q: u64, x: u64, y: u64) -> Candidate
     requires { ⌜ (isAlphabet q ≡ true) × Below q x × Below q y ⌝ }
-    ensures { λ r. ⌜ GuessOfBoth q 5 x y (message (r .constant) (r .c0) (r .c1) (r .c2) (r .c3) (r .c4)) ⌝ }
+    ensures { λ r. ⌜ CandidateOfBoth q 5 x y (message (r .constant) (r .c0) (r .c1) (r .c2) (r .c3) (r .c4)) ⌝ }
 {
     let c0 = fifteen(
         q,
-        swar_lanes::ahead(q, 0, x),
-        swar_lanes::ahead(q, 0, y),
+        swar_lanes::votes_in(q, 0, x),
+        swar_lanes::votes_in(q, 0, y),
         1,
         2,
         3,
     );
     let c1 = fifteen(
         q,
-        swar_lanes::ahead(q, 1, x),
-        swar_lanes::ahead(q, 1, y),
+        swar_lanes::votes_in(q, 1, x),
+        swar_lanes::votes_in(q, 1, y),
         0,
         2,
         3,
     );
     let c2 = fifteen(
         q,
-        swar_lanes::ahead(q, 2, x),
-        swar_lanes::ahead(q, 2, y),
+        swar_lanes::votes_in(q, 2, x),
+        swar_lanes::votes_in(q, 2, y),
         0,
         1,
         3,
     );
     let c3 = fifteen(
         q,
-        swar_lanes::ahead(q, 3, x),
-        swar_lanes::ahead(q, 3, y),
+        swar_lanes::votes_in(q, 3, x),
+        swar_lanes::votes_in(q, 3, y),
         0,
         1,
         2,
@@ -177,7 +177,7 @@ pub fn guess_32(q: u64, x: u64, y: u64) -> Guess
     let d = swar_lanes::less(q, y, x);
     let c4 = fifteen(q, d, swar_lanes::partners(3, d), 0, 1, 2);
     let left = rest(q, x, c0, c1, c2, c3);
-    Guess {
+    Candidate {
         constant: fifteen(q, left, swar_lanes::partners(3, left), 0, 1, 2),
         c0,
         c1,

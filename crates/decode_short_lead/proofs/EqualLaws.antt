@@ -17,7 +17,7 @@ use Rattle.swar_theory.specs.Digit.{digit, number}
 use Rattle.swar_theory.proofs.DigitLaws.{digit-lt, digit-and, digit-xor, digit-add, add-lt, digit-sub, number-of}
 use Rattle.swar_lanes.specs.Lane.{Lanes, Below}
 use Rattle.swar_lanes.proofs.LaneLaws.{lanes-are, full-lanes, one-lanes, spread-lanes}
-use Rattle.decode_short_lead.specs.Lead.{Mask, cast}
+use Rattle.decode_short_lead.specs.Lead.{Mask, lanesEqual}
 
 seven-lanes : Lanes 0x7777_7777_7777_7777 (λ t. 7)
 unfolding every digit
@@ -95,13 +95,13 @@ total-is p h l = fifteen (digit 4 p) p (number-of 4 16 p h) l
 pub every-lane : Mask 0x1111_1111_1111_1111
 every-lane t h = omega (arith, one-lanes t h)
 
-pub equal-sum : (x v r : ℕ) → Lanes r (λ t. digit 4 0x1111_1111_1111_1111 t * same (digit 4 x t) v) → sum 16 (digit 4 r) ≡ cast x v
-unfolding cast
+pub equal-sum : (x v r : ℕ) → Lanes r (λ t. digit 4 0x1111_1111_1111_1111 t * same (digit 4 x t) v) → sum 16 (digit 4 r) ≡ lanesEqual x v
+unfolding lanesEqual
 equal-sum x v r l = sum-ext 16 _ _ (λ t h. l t h ∙ ap (λ c. c * same (digit 4 x t) v) (one-lanes t h) ∙ one-mul (same (digit 4 x t) v))
 
 -- where no lane is above 1, the lanes are the votes for 1
-pub two-sum : (x : ℕ) → Below 2 x → sum 16 (digit 4 x) ≡ cast x 1
-unfolding cast same
+pub two-sum : (x : ℕ) → Below 2 x → sum 16 (digit 4 x) ≡ lanesEqual x 1
+unfolding lanesEqual same
 two-sum x b = sum-ext 16 _ _ (λ t h. go (digit 4 x t) (b t h))
   where
     go : (d : ℕ) → d < 2 → d ≡ same d 1

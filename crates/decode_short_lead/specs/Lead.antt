@@ -5,8 +5,8 @@ use Rattle.code_theory.specs.Modular.{same}
 use Rattle.swar_theory.specs.Digit.{digit}
 
 -- how many of the sixteen lanes of x are v
-unfoldable pub cast : ℕ → ℕ → ℕ
-cast x v = sum 16 (λ t. same (digit 4 x t) v)
+unfoldable pub lanesEqual : ℕ → ℕ → ℕ
+lanesEqual x v = sum 16 (λ t. same (digit 4 x t) v)
 
 -- every lane of c is 0 or 1
 abbrev pub Mask : ℕ → Type 0

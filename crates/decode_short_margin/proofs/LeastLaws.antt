@@ -12,9 +12,9 @@ use Rattle.code_theory.proofs.ErrorLaws.{sumFrom1, maxFrom1, sumFrom1-ext, maxF
 use Rattle.code_theory.proofs.WordLaws.{bounds}
 use Rattle.swar_lanes.specs.Lane.{Below}
 use Rattle.swar_lanes.proofs.LaneLaws.{none-below}
-use Rattle.decode_short_lead.specs.Lead.{cast}
+use Rattle.decode_short_lead.specs.Lead.{lanesEqual}
 use Rattle.decode_short_margin.specs.Margins.{placeOf, placesOf, bothVotes, leadBy, Errors}
-use Rattle.decode_short_margin.proofs.CastLaws.{both-none, votes-both}
+use Rattle.decode_short_margin.proofs.LaneLaws.{both-none, votes-both}
 
 pub leadBy-ext : (q half : ℕ) (f g : ℕ → ℕ) → ((v : ℕ) → 1 ≤ v → f v ≡ g v) → leadBy q half f ≡ leadBy q half g
 unfolding leadBy
@@ -30,14 +30,14 @@ unfolding leadBy
 lead-same q half r f g e k = k ∙ leadBy-ext q half f g e
 
 -- WHAT LEADS ASKS of the votes in the lanes of x, and what it tells
-module _ (q half x : ℕ) (g : ℕ → ℕ) (a : isAlphabet q ≡ true) (b : Below q x) (e : (v : ℕ) → cast x v ≡ g v) (s : half ≤ 16) (few : 2 * sumFrom1 (q - 1) g ≤ half) where
-  pub lead-room : Below q x × (2 ≤ q) × (q ≤ 8) × (sumFrom1 (q - 1) (cast x) < 15) × (2 * sumFrom1 (q - 1) (cast x) ≤ half)
+module _ (q half x : ℕ) (g : ℕ → ℕ) (a : isAlphabet q ≡ true) (b : Below q x) (e : (v : ℕ) → lanesEqual x v ≡ g v) (s : half ≤ 16) (few : 2 * sumFrom1 (q - 1) g ≤ half) where
+  pub lead-room : Below q x × (2 ≤ q) × (q ≤ 8) × (sumFrom1 (q - 1) (lanesEqual x) < 15) × (2 * sumFrom1 (q - 1) (lanesEqual x) ≤ half)
   lead-room =
-      let l = few-same q half (cast x) g (λ v _. e v) few in
+      let l = few-same q half (lanesEqual x) g (λ v _. e v) few in
       (b, bounds q a .0, bounds q a .1, omega (arith, l, s), l)
 
-  pub lead-told : (r : ℕ) → r ≡ half - sumFrom1 (q - 1) (cast x) - maxFrom1 (q - 1) (cast x) → r ≡ leadBy q half g
-  lead-told r k = lead-same q half r (cast x) g (λ v _. e v) k
+  pub lead-told : (r : ℕ) → r ≡ half - sumFrom1 (q - 1) (lanesEqual x) - maxFrom1 (q - 1) (lanesEqual x) → r ≡ leadBy q half g
+  lead-told r k = lead-same q half r (lanesEqual x) g (λ v _. e v) k
 
 -- THE LEAST OF FOUR, one after the other
 pub least-four : (g : ℕ → ℕ) (a b c d r1 r2 r3 : ℕ) → a ≡ g 0 → b ≡ g 1 → r1 ≡ min a b → c ≡ g 2 → r2 ≡ min r1 c → d ≡ g 3 → r3 ≡ min r2 d → r3 ≡ least 3 g

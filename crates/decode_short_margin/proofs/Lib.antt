@@ -1,2 +1,2 @@
-pub mod CastLaws
+pub mod LaneLaws
 pub mod LeastLaws

@@ -1,4 +1,4 @@
--- The places of a word in lanes, and the votes that they cast.
+-- The places of a word in lanes, and the votes that they give.
 use Prim.Native.Nat.{ℕ, _+_, _*_, _-_, _/_, _%_, _≤_, _<_}
 use mathlib.Core.Path.{_≡_}
 use mathlib.Core.Bool.{true, cond}

@@ -21,7 +21,7 @@ use Rattle.code_theory.proofs.QuestionLaws.{Alphabet, alphabet, alphabet-bounds
 use Rattle.code_theory.proofs.EveryLaws.{every-at}
 use Rattle.swar_theory.specs.Digit.{digit}
 use Rattle.swar_theory.proofs.DigitLaws.{digit-lt, digit-and, digit-add, add-lt, digit-sub, sub-le, digit-times, digit-down}
-use Rattle.swar_lanes.specs.Ballot.{laneBit, Ahead}
+use Rattle.swar_lanes.specs.Ballot.{laneBit, VotesIn}
 use Rattle.swar_lanes.specs.Lane.{offset, laneOf, Lanes, Below, ClearLanes, Blend}
 
 -- the lanes of a number that is written out, by one computed test
@@ -195,8 +195,8 @@ pub partners-below : (q k x y : ℕ) → isAlphabet q ≡ true → x < 184467440
 partners-below q k x y al h b e t i = omega (arith, ap (λ n. digit 4 n t) e, down-below q (2 ^ laneBit k) x al h b t i)
 
 -- the votes in the lanes that the mask e keeps
-pub ahead-is : (q k x y l e d : ℕ) → l ≡ laneBit k → y ≡ x / 2 ^ (4 * 2 ^ laneBit k) → ClearLanes l e → Lanes d (λ t. subMod q (digit 4 y t) (digit 4 x t)) → Ahead q k x (bitAnd d e)
-ahead-is q k x y l e d f g c v = record {
+pub votes-in-is : (q k x y l e d : ℕ) → l ≡ laneBit k → y ≡ x / 2 ^ (4 * 2 ^ laneBit k) → ClearLanes l e → Lanes d (λ t. subMod q (digit 4 y t) (digit 4 x t)) → VotesIn q k x (bitAnd d e)
+votes-in-is q k x y l e d f g c v = record {
   votes = λ t h z.
       digit-and 4 d e t ∙ keep (digit 4 d t) (digit 4 e t) (digit-lt 4 d t) (c t h ∙ ap (λ b. 15 * (1 - b)) (ap (λ n. bit n t) f ∙ z))
       ∙ v t h ∙ ap (λ n. subMod q n (digit 4 x t)) (ap (λ n. digit 4 n t) g ∙ digit-down 4 x (2 ^ laneBit k) t);

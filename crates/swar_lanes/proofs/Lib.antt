@@ -1,5 +1,5 @@
 pub mod LaneLaws
 pub mod SpotLaws
-pub mod NearLaws
+pub mod WithinLaws
 pub mod BallotLaws
 pub mod LoadLaws

@@ -1,4 +1,4 @@
--- The votes that stand in the lanes of a number, and what is polled from them.
+-- The votes that stand in the lanes of a number.
 use Prim.Native.Nat.{ℕ, zero, suc, _+_, _*_, _-_, _%_, _^_, _≤_, _<_}
 use mathlib.Core.Path.{_≡_}
 use mathlib.Core.List.{List}
@@ -18,7 +18,7 @@ unfoldable pub laneBit : ℕ → ℕ
 laneBit k = suc k % 4
 
 -- the lanes of d whose bit laneBit k is 0 are the votes for coefficient k of the places that x holds, and the others are 0
-pub record Ahead (q k x d : ℕ) : Type 0 where
+pub record VotesIn (q k x d : ℕ) : Type 0 where
   pub votes : (t : ℕ) → t < 16 → bit (laneBit k) t ≡ 0 → digit 4 d t ≡ subMod q (digit 4 x (2 ^ laneBit k + t)) (digit 4 x t)
   pub others : (t : ℕ) → t < 16 → bit (laneBit k) t ≡ 1 → digit 4 d t ≡ 0
 
@@ -32,8 +32,8 @@ unfoldable pub place : ℕ → ℕ → ℕ
 place k t = either (bit (laneBit k) t) (offset t) (16 + offset (t - 2 ^ laneBit k))
 
 -- the lanes of r are the votes for coefficient k of the 32 places that a and b hold
-abbrev pub NearVotes : ℕ → ℕ → ℕ → ℕ → ℕ → Type 0
-NearVotes q k a b r = (w : List ℕ) (i : ℕ) → Held w i a → Held w (i + 16) b → Lanes r (λ t. vote q k (at w) (i + place k t))
+abbrev pub VotesWithin : ℕ → ℕ → ℕ → ℕ → ℕ → Type 0
+VotesWithin q k a b r = (w : List ℕ) (i : ℕ) → Held w i a → Held w (i + 16) b → Lanes r (λ t. vote q k (at w) (i + place k t))
 
 -- the place of the vote for coefficient k in lane t of ballot j
 unfoldable pub spot : ℕ → ℕ → ℕ → ℕ

@@ -9,7 +9,7 @@ ghost use Rattle.code_theory.specs.Modular.{subMod};
 ghost use Rattle.code_theory.specs.Question.{isAlphabet};
 ghost use Rattle.swar_theory.specs.Digit.{digit};
 ghost use Rattle.swar_lanes.specs.Lane.{Lanes, Below, Within, Low, Held, Loaded, ClearLanes, Blend};
-ghost use Rattle.swar_lanes.specs.Ballot.{laneBit, Ahead, NearVotes, Reach, BallotOf};
+ghost use Rattle.swar_lanes.specs.Ballot.{laneBit, VotesIn, VotesWithin, Reach, BallotOf};
 
 // The lanes whose bit l is 0, filled with ones.
 fn clear(l: u32) -> u64
@@ -75,9 +75,9 @@ pub fn partners(k: u32, x: u64) -> u64
 
 // The votes for coefficient k, below 4, of the places that one number holds: each in the lane of its place, whose bit k is 0; the other
 // lanes are 0.
-pub fn ahead(q: u64, k: u32, x: u64) -> u64
+pub fn votes_in(q: u64, k: u32, x: u64) -> u64
     requires { ⌜ (isAlphabet q ≡ true) × (k < 4) × Below q x ⌝ }
-    ensures { λ r. ⌜ Ahead q k x r ⌝ }
+    ensures { λ r. ⌜ VotesIn q k x r ⌝ }
 {
     less(q, partners(k, x), x) & clear(lane_bit(k))
 }
@@ -92,9 +92,9 @@ fn number(x: &[u64; 16], i: usize) -> u64
 
 // The sixteen votes for coefficient k, below 4, in two numbers: those of the first in the lanes whose bit is 0, those of the second
 // in the others.
-pub fn near(q: u64, k: u32, a: u64, b: u64) -> u64
+pub fn votes_within(q: u64, k: u32, a: u64, b: u64) -> u64
     requires { ⌜ (isAlphabet q ≡ true) × Below q a × Below q b × (k < 4) ⌝ }
-    ensures { λ r. ⌜ NearVotes q k a b r × Below q r ⌝ }
+    ensures { λ r. ⌜ VotesWithin q k a b r × Below q r ⌝ }
 {
     let l = lane_bit(k);
     let step = lane_step(l);
@@ -104,7 +104,7 @@ pub fn near(q: u64, k: u32, a: u64, b: u64) -> u64
 }
 
 // The sixteen votes for coefficient k, from 4 on: the partners of number i stand 2^(k - 4) numbers further on.
-fn far(q: u64, k: u32, j: usize, x: &[u64; 16]) -> u64
+fn votes_across(q: u64, k: u32, j: usize, x: &[u64; 16]) -> u64
     requires { ⌜ Reach q k j (now x) × (4 ≤ k) ⌝ }
     ensures { λ r. ⌜ BallotOf q k j (now (x .entry)) r × Below q r ⌝ }
 {
@@ -118,13 +118,13 @@ pub fn ballot(q: u64, k: u32, j: usize, x: &[u64; 16]) -> u64
     ensures { λ r. ⌜ BallotOf q k j (now (x .entry)) r × Below q r ⌝ }
 {
     if k < 4 {
-        return near(q, k, number(x, 2 * j), number(x, 2 * j + 1));
+        return votes_within(q, k, number(x, 2 * j), number(x, 2 * j + 1));
     }
-    far(q, k, j, x)
+    votes_across(q, k, j, x)
 }
 
 // What the lanes of number j of x are ahead of those of y by.
-pub fn gap(q: u64, j: usize, x: &[u64; 16], y: &[u64; 16]) -> u64
+pub fn differences(q: u64, j: usize, x: &[u64; 16], y: &[u64; 16]) -> u64
     requires { ⌜ (isAlphabet q ≡ true) × (j < 16) × Within q (now x) × Within q (now y) ⌝ }
     ensures { λ r. ⌜ Lanes r (λ t. subMod q (digit 4 (at (now (x .entry)) j) t) (digit 4 (at (now (y .entry)) j) t)) ⌝ }
 {

@@ -1,6 +1,6 @@
 -- `pair` meets its contract: the byte is the table's index.
 use native.Mathlib.Omega.{arith}
-use Rattle.decode_long_tally.proofs.PollLaws.{byte-fits, byte-lt, byte-entry}
+use Rattle.decode_long_tally.proofs.TallyLaws.{byte-fits, byte-lt, byte-entry}
 use Rattle.decode_long_tally.proofs.pair.Statement.{statement}
 use Rattle.decode_long_tally.proofs.pair.Tie as tie
 

@@ -3,7 +3,7 @@ use Prim.Native.Nat.{_≤_, _-_}
 use native.Mathlib.Omega.{arith}
 use Rattle.decode_long_tally.specs.Pairs.{Row}
 use Rattle.decode_long_tally.proofs.PairLaws.{row-none, row-next, row-all}
-use Rattle.decode_long_tally.proofs.PollLaws.{unit-le}
+use Rattle.decode_long_tally.proofs.TallyLaws.{unit-le}
 use borrow.Author.Needs.{needs}
 use Rattle.decode_long_tally.proofs.row.Statement.{statement}
 use Rattle.decode_long_tally.proofs.row.Tie as tie

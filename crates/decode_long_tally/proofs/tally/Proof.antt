@@ -2,7 +2,7 @@
 use Prim.Native.Nat.{_-_, _^_, _≤_}
 use mathlib.Core.Path.{_≡_}
 use native.Mathlib.Omega.{arith}
-use Rattle.decode_long_tally.proofs.PollLaws.{Balloted, few-ballots, ballots-none, reach, listed, ballots-next, ballots-all}
+use Rattle.decode_long_tally.proofs.TallyLaws.{Balloted, few-ballots, ballots-none, reach, listed, ballots-next, ballots-all}
 use borrow.Author.Needs.{needs}
 use Rattle.decode_long_tally.proofs.tally.Statement.{statement}
 use Rattle.decode_long_tally.proofs.tally.Tie as tie
@@ -27,8 +27,8 @@ ballot-requires c κs =
     let s = c .before .before .before in
     reach (s .args .q) (s .args .m) (s .args .k) (s .args .x .now) (s .pre .0) (s .pre .2) _ (omega arith)
 
-poll-requires : tie.Need-poll-requires Inv-loop μ-loop
-poll-requires c κs =
+lane-tally-requires : tie.Need-lane-tally-requires Inv-loop μ-loop
+lane-tally-requires c κs =
     let s = c .before .before .before .before in
     listed (s .args .q) _ _ (s .pre .0 .alphabet) (s .pre .1) (c .ballot .ensures .1)
 
@@ -36,7 +36,7 @@ add-t : tie.Need-add-t Inv-loop μ-loop
 add-t c =
     let s = c .before .before .before .before .before in
     let l = c .before .before .before .loop in
-    omega (arith, l .inv .1, l .inv .2 .0, few-ballots (s .args .q) (s .args .m) (s .args .k) (s .args .x .now) (s .pre .0) (s .pre .2), c .poll .ensures .1)
+    omega (arith, l .inv .1, l .inv .2 .0, few-ballots (s .args .q) (s .args .m) (s .args .k) (s .args .x .now) (s .pre .0) (s .pre .2), c .lane-tally .ensures .1)
 
 add-j : tie.Need-add-j Inv-loop μ-loop
 add-j c = search needs
@@ -48,7 +48,7 @@ loop-again : tie.Need-loop-again Inv-loop μ-loop
 loop-again c =
     let s = c .before .before .before .before .before in
     let l = c .before .before .before .loop in
-    (omega arith, l .inv .1, ballots-next (s .args .q) (s .args .m) (s .args .k) (s .args .x .now) (s .pre .0) (s .pre .2) (l .j) (l .t) _ _ (omega arith) (l .inv .2) (c .before .ballot .ensures .0) (c .poll .ensures .0) (c .poll .ensures .1))
+    (omega arith, l .inv .1, ballots-next (s .args .q) (s .args .m) (s .args .k) (s .args .x .now) (s .pre .0) (s .pre .2) (l .j) (l .t) _ _ (omega arith) (l .inv .2) (c .before .ballot .ensures .0) (c .lane-tally .ensures .0) (c .lane-tally .ensures .1))
 
 returns : tie.Need-returns Inv-loop μ-loop
 returns c =
@@ -65,7 +65,7 @@ tally-spec =
     pow2-requires
     loop-holds
     ballot-requires
-    poll-requires
+    lane-tally-requires
     add-t
     add-j
     loop-less

@@ -1,28 +1,28 @@
--- `read_16` meets its contract: the trial settles the reading.
+-- `read_16` meets its contract: the verified candidate settles the reading.
 use native.Mathlib.Omega.{arith}
 use mathlib.Core.Path.{refl}
 use borrow.Author.Needs.{needs}
-use Rattle.decode_short_candidate.specs.Guess.{message}
+use Rattle.decode_short_candidate.specs.Candidate.{message}
 use Rattle.decode_short_margin.specs.Margins.{placeOf}
 use Rattle.decode_short.proofs.SettleLaws.{front-all, symbols-eight, doubtful, clear, damaged, bad-votes}
 use Rattle.decode_short.proofs.read_16.Statement.{statement}
 use Rattle.decode_short.proofs.read_16.Tie as tie
 
-try-16-requires : tie.Need-try-16-requires
-try-16-requires c κs = c .before .before .pre .0
+verify-16-requires : tie.Need-verify-16-requires
+verify-16-requires c κs = c .before .before .pre .0
 
 returns : tie.Need-returns
 unfolding message
 returns c =
     let s = c .before .before .before .before .before in
-    let t = c .before .before .try-16 in
+    let t = c .before .before .verify-16 in
     doubtful (s .args .q) 3 (s .args .word .now) (message (t .result .constant) (t .result .c0) (t .result .c1) (t .result .c2) (t .result .c3) (t .result .c4)) (t .result .wrong) (placeOf (t .result .first)) (s .pre .0) (omega arith) refl (t .ensures .0) (s .args .s .now) 0 (omega arith)
 
 store-5-requires : tie.Need-store-5-requires
 store-5-requires c κs =
     let s = c .before .before .before .before .before .before in
-    let t = c .before .before .before .try-16 in
-    let (a, c0, c1, c2, c3, c4) = symbols-eight (s .args .q) 4 (s .args .word .now) (t .result .constant) (t .result .c0) (t .result .c1) (t .result .c2) (t .result .c3) (t .result .c4) (s .pre .0) (t .ensures .0 .guessed) in
+    let t = c .before .before .before .verify-16 in
+    let (a, c0, c1, c2, c3, c4) = symbols-eight (s .args .q) 4 (s .args .word .now) (t .result .constant) (t .result .c0) (t .result .c1) (t .result .c2) (t .result .c3) (t .result .c4) (s .pre .0) (t .ensures .0 .candidate) in
     (omega (arith, s .pre .1), a, c0, c1, c2, c3)
 
 mul-t10 : tie.Need-mul-t10
@@ -38,7 +38,7 @@ returns-2 : tie.Need-returns-2
 unfolding message
 returns-2 c =
     let s = c .before .before .before .before .before .before .before .before .before .before .before .before in
-    let t = c .before .before .before .before .before .before .before .before .before .try-16 in
+    let t = c .before .before .before .before .before .before .before .before .before .verify-16 in
     let f = c .before .before .before .before .before .store-5 in
     clear (s .args .q) 3 (s .args .word .now) (message (t .result .constant) (t .result .c0) (t .result .c1) (t .result .c2) (t .result .c3) (t .result .c4)) (t .result .wrong) (placeOf (t .result .first)) (s .pre .0) (omega arith) refl (t .ensures .0) (s .args .s .now) (f .last .0) _ (omega arith) (omega arith) (front-all 5 _ (s .args .s .now) (f .last .0) (omega arith) (s .pre .1) (f .ensures)) refl
 
@@ -46,7 +46,7 @@ margin-16-requires : tie.Need-margin-16-requires
 unfolding message
 margin-16-requires c κs =
     let s = c .before .before .before .before .before .before .before .before .before .before .before in
-    let t = c .before .before .before .before .before .before .before .before .try-16 in
+    let t = c .before .before .before .before .before .before .before .before .verify-16 in
     let b = bad-votes (s .args .q) 3 (s .args .word .now) (message (t .result .constant) (t .result .c0) (t .result .c1) (t .result .c2) (t .result .c3) (t .result .c4)) (t .result .wrong) (placeOf (t .result .first)) (s .pre .0) (omega arith) refl (t .ensures .0) in
     (s .pre .0 .alphabet, t .ensures .1, λ k l. omega (arith, b k l))
 
@@ -57,7 +57,7 @@ returns-3 : tie.Need-returns-3
 unfolding message
 returns-3 c =
     let s = c .before .before .before .before .before .before .before .before .before .before .before .before in
-    let t = c .before .before .before .before .before .before .before .before .before .try-16 in
+    let t = c .before .before .before .before .before .before .before .before .before .verify-16 in
     let f = c .before .before .before .before .before .store-5 in
     damaged (s .args .q) 3 (s .args .word .now) (message (t .result .constant) (t .result .c0) (t .result .c1) (t .result .c2) (t .result .c3) (t .result .c4)) (t .result .wrong) (placeOf (t .result .first)) (s .pre .0) (omega arith) refl (t .ensures .0) (s .args .s .now) (f .last .0) (c .margin-16 .result) (omega arith) (front-all 5 _ (s .args .s .now) (f .last .0) (omega arith) (s .pre .1) (f .ensures)) (c .margin-16 .ensures)
 
@@ -65,7 +65,7 @@ pub read-16-spec : {M : Type 1} → statement M
 read-16-spec =
     tie.close
     (tie.spec
-    try-16-requires
+    verify-16-requires
     returns
     store-5-requires
     mul-t10

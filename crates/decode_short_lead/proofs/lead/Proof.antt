@@ -3,7 +3,7 @@ use Prim.Native.Nat.{_<_}
 use mathlib.Core.Path.{_≡_, _∙_}
 use native.Mathlib.Omega.{arith}
 use Rattle.swar_lanes.specs.Lane.{Below}
-use Rattle.decode_short_lead.specs.Lead.{cast}
+use Rattle.decode_short_lead.specs.Lead.{lanesEqual}
 use Rattle.decode_short_lead.proofs.LeadLaws.{one-sum, one-other}
 use Rattle.decode_short_lead.proofs.lead.Statement.{statement}
 use Rattle.decode_short_lead.proofs.lead.Tie as tie
@@ -12,14 +12,14 @@ lead-of-two-requires : tie.Need-lead-of-two-requires
 lead-of-two-requires c κs =
     let s = c .before in
     let two : s .args .q ≡ 2 = omega arith in
-    let one = one-sum (s .args .q) (cast (s .args .x)) two in
+    let one = one-sum (s .args .q) (lanesEqual (s .args .x)) two in
     ((λ t h. omega (arith, two, s .pre .0 t h)), omega (arith, one, s .pre .3), omega (arith, one, s .pre .4))
 
 returns : tie.Need-returns
 returns c =
     let s = c .before .before in
     let two : s .args .q ≡ 2 = omega arith in
-    c .lead-of-two .ensures ∙ one-other (s .args .q) (s .args .half) (cast (s .args .x)) two
+    c .lead-of-two .ensures ∙ one-other (s .args .q) (s .args .half) (lanesEqual (s .args .x)) two
 
 lead-by-values-requires : tie.Need-lead-by-values-requires
 lead-by-values-requires c κs =

@@ -4,14 +4,14 @@ use mathlib.Core.Path.{_≡_, refl}
 use native.Mathlib.Omega.{arith}
 use borrow.Author.Needs.{needs}
 use Rattle.code_theory.proofs.ErrorLaws.{sumFrom1, maxFrom1}
-use Rattle.decode_short_lead.specs.Lead.{cast}
+use Rattle.decode_short_lead.specs.Lead.{lanesEqual}
 use Rattle.decode_short_lead.proofs.LeadLaws.{sum-within, turn-sum, turn-max, turn-fits, last-fits, last-is}
 use Rattle.decode_short_lead.proofs.lead_by_values.Statement.{statement}
 use Rattle.decode_short_lead.proofs.lead_by_values.Tie as tie
 
 abbrev Inv-loop : tie.InvT-loop
 Inv-loop q half x bad₀ next₀ v₀ bad next v =
-    (1 ≤ v) × (v ≤ q) × (bad ≡ sumFrom1 (v - 1) (cast x)) × (next ≡ maxFrom1 (v - 1) (cast x))
+    (1 ≤ v) × (v ≤ q) × (bad ≡ sumFrom1 (v - 1) (lanesEqual x)) × (next ≡ maxFrom1 (v - 1) (lanesEqual x))
 
 abbrev μ-loop : tie.MeasureT-loop
 μ-loop q half x bad₀ next₀ v₀ bad next v = q - v
@@ -27,13 +27,13 @@ votes-requires : tie.Need-votes-requires Inv-loop μ-loop
 votes-requires c κs =
     let s = c .before .before in
     let l = c .before .loop in
-    (s .pre .0, omega arith, omega (arith, sum-within (l .v) (s .args .q) (cast (s .args .x)) (l .inv .0) (omega arith), s .pre .3))
+    (s .pre .0, omega arith, omega (arith, sum-within (l .v) (s .args .q) (lanesEqual (s .args .x)) (l .inv .0) (omega arith), s .pre .3))
 
 add-bad : tie.Need-add-bad Inv-loop μ-loop
 add-bad c =
     let s = c .before .before .before in
     let l = c .before .before .loop in
-    let few = turn-fits (s .args .q) (l .v) (l .bad) (l .next) (cast (s .args .x)) (l .inv .2) (l .inv .3) (c .votes .result) 15 (l .inv .0) (omega arith) (c .votes .ensures) (s .pre .3) in
+    let few = turn-fits (s .args .q) (l .v) (l .bad) (l .next) (lanesEqual (s .args .x)) (l .inv .2) (l .inv .3) (c .votes .result) 15 (l .inv .0) (omega arith) (c .votes .ensures) (s .pre .3) in
     record { fits = omega (arith, few) }
 
 larger-requires : tie.Need-larger-requires Inv-loop μ-loop
@@ -49,26 +49,26 @@ loop-again : tie.Need-loop-again Inv-loop μ-loop
 loop-again c =
     let s = c .before .before .before .before in
     let l = c .before .before .before .loop in
-    let f = cast (s .args .x) in
+    let f = lanesEqual (s .args .x) in
     (omega arith, omega arith, turn-sum (s .args .q) (l .v) (l .bad) (l .next) f (l .inv .2) (l .inv .3) _ (l .inv .0) (c .before .votes .ensures), turn-max (s .args .q) (l .v) (l .bad) (l .next) f (l .inv .2) (l .inv .3) _ _ (l .inv .0) (c .before .votes .ensures) (c .larger .ensures))
 
 sub-result : tie.Need-sub-result Inv-loop μ-loop
 sub-result c =
     let s = c .before .before in
     let l = c .before .loop in
-    omega (arith, last-fits (s .args .q) (l .v) (l .bad) (l .next) (cast (s .args .x)) (l .inv .2) (l .inv .3) (s .args .half) (omega arith) (s .pre .4))
+    omega (arith, last-fits (s .args .q) (l .v) (l .bad) (l .next) (lanesEqual (s .args .x)) (l .inv .2) (l .inv .3) (s .args .half) (omega arith) (s .pre .4))
 
 sub-result-2 : tie.Need-sub-result-2 Inv-loop μ-loop
 sub-result-2 c =
     let s = c .before .before in
     let l = c .before .loop in
-    omega (arith, last-fits (s .args .q) (l .v) (l .bad) (l .next) (cast (s .args .x)) (l .inv .2) (l .inv .3) (s .args .half) (omega arith) (s .pre .4))
+    omega (arith, last-fits (s .args .q) (l .v) (l .bad) (l .next) (lanesEqual (s .args .x)) (l .inv .2) (l .inv .3) (s .args .half) (omega arith) (s .pre .4))
 
 returns : tie.Need-returns Inv-loop μ-loop
 returns c =
     let s = c .before .before in
     let l = c .before .loop in
-    last-is (s .args .q) (l .v) (l .bad) (l .next) (cast (s .args .x)) (l .inv .2) (l .inv .3) (s .args .half) (omega arith)
+    last-is (s .args .q) (l .v) (l .bad) (l .next) (lanesEqual (s .args .x)) (l .inv .2) (l .inv .3) (s .args .half) (omega arith)
 
 pub lead-by-values-spec : {M : Type 1} → statement M
 lead-by-values-spec =

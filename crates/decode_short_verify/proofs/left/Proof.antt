@@ -1,7 +1,7 @@
 -- `left` meets its contract: the code is taken out first, then the constant.
 use Rattle.code_theory.proofs.QuestionLaws.{alphabet-positive}
 use Rattle.decode_short_errors.proofs.PlaceLaws.{plain-below}
-use Rattle.decode_short_verify.proofs.TrialLaws.{left-is, left-below}
+use Rattle.decode_short_verify.proofs.VerifyLaws.{left-is, left-below}
 use borrow.Author.Needs.{needs}
 use Rattle.decode_short_verify.proofs.left.Statement.{statement}
 use Rattle.decode_short_verify.proofs.left.Tie as tie

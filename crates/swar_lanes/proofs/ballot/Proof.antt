@@ -20,18 +20,18 @@ add-number c = search needs
 number-requires-2 : tie.Need-number-requires-2
 number-requires-2 c κs = search needs
 
-near-requires : tie.Need-near-requires
-near-requires c κs =
+votes-within-requires : tie.Need-votes-within-requires
+votes-within-requires c κs =
     let s = c .before .before .before in
     (s .pre .alphabet, number-below _ (s .args .x .now) _ _ (s .pre .symbols) (omega (arith, s .pre .few)) (c .before .number .ensures), number-below _ (s .args .x .now) _ _ (s .pre .symbols) (omega (arith, s .pre .few)) (c .number2 .ensures), omega arith)
 
 returns : tie.Need-returns
 returns c =
     let s = c .before .before .before .before in
-    (near-ballot (s .args .q) (s .args .k) (s .args .j) (s .args .x .now) _ _ _ (omega arith) (c .before .before .number .ensures) (c .before .number2 .ensures) (c .near .ensures .0), c .near .ensures .1)
+    (near-ballot (s .args .q) (s .args .k) (s .args .j) (s .args .x .now) _ _ _ (omega arith) (c .before .before .number .ensures) (c .before .number2 .ensures) (c .votes-within .ensures .0), c .votes-within .ensures .1)
 
-far-requires : tie.Need-far-requires
-far-requires c κs = search needs
+votes-across-requires : tie.Need-votes-across-requires
+votes-across-requires c κs = search needs
 
 returns-2 : tie.Need-returns-2
 returns-2 c = search needs
@@ -45,7 +45,7 @@ ballot-spec =
     mul-number-2
     add-number
     number-requires-2
-    near-requires
+    votes-within-requires
     returns
-    far-requires
+    votes-across-requires
     returns-2)

@@ -1,0 +1,37 @@
+-- The candidate of a word in lanes: the only message that can be near it.
+use Prim.Native.Nat.{ℕ, suc, _+_, _≤_, _<_}
+use mathlib.Core.Path.{_≡_}
+use mathlib.Core.List.{List, [], _∷_}
+use Rattle.code_theory.specs.Sum.{at}
+use Rattle.code_theory.specs.Modular.{subMod}
+use Rattle.code_theory.specs.Near.{Near}
+use Rattle.code_theory.proofs.WinnerLaws as winner
+use Rattle.swar_theory.specs.Digit.{digit}
+use Rattle.swar_lanes.specs.Lane.{offset, Lanes, Held}
+use Rattle.decode_short_errors.specs.Places.{plain}
+
+-- the lanes of d are what is left of those of x when the word of four coefficients is taken out
+abbrev pub Rest : ℕ → ℕ → ℕ → ℕ → ℕ → ℕ → ℕ → Type 0
+Rest q x c0 c1 c2 c3 d = Lanes d (λ t. subMod q (digit 4 x t) (plain q c0 c1 c2 c3 (offset t)))
+
+-- r is a symbol, and the one that n lanes or more have, where there is such a symbol; f counts the lanes of a symbol
+pub record Chosen (q n : ℕ) (f : ℕ → ℕ) (r : ℕ) : Type 0 where
+  pub fits : r < q
+  pub is : (v : ℕ) → v < q → n ≤ f v → r ≡ v
+
+-- the constant a and five coefficients as a message; those from m on are 0
+unfoldable pub message : ℕ → ℕ → ℕ → ℕ → ℕ → ℕ → List ℕ
+message a c0 c1 c2 c3 c4 = a ∷ c0 ∷ c1 ∷ c2 ∷ c3 ∷ c4 ∷ []
+
+-- d is the only message that can be near the word w of 2^m places
+pub record OnlyCandidate (q m : ℕ) (w d : List ℕ) : Type 0 where
+  pub below : (k : ℕ) → k < 6 → at d k < q
+  pub only : (s : ℕ → ℕ) → winner.Below q m s → Near q m s (at w) → (k : ℕ) → k < suc m → at d k ≡ s k
+
+-- d is the candidate of any word that x holds from its first place on
+abbrev pub CandidateOf : ℕ → ℕ → ℕ → List ℕ → Type 0
+CandidateOf q m x d = (w : List ℕ) → Held w 0 x → OnlyCandidate q m w d
+
+-- d is the candidate of any word whose first sixteen places x holds, and y the next
+abbrev pub CandidateOfBoth : ℕ → ℕ → ℕ → ℕ → List ℕ → Type 0
+CandidateOfBoth q m x y d = (w : List ℕ) → Held w 0 x → Held w 16 y → OnlyCandidate q m w d
