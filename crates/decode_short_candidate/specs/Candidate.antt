@@ -9,6 +9,7 @@ use Rattle.code_theory.proofs.WinnerLaws as winner
 use Rattle.swar_theory.specs.Digit.{digit}
 use Rattle.swar_lanes.specs.Lane.{offset, Lanes, Held}
 use Rattle.decode_short_errors.specs.Places.{plain}
+use Rattle.decode_short_candidate.specs.declared.Candidate.{Candidate}
 
 -- the lanes of d are what is left of those of x when the word of four coefficients is taken out
 abbrev pub Rest : ℕ → ℕ → ℕ → ℕ → ℕ → ℕ → ℕ → Type 0
@@ -22,6 +23,10 @@ pub record Chosen (q n : ℕ) (f : ℕ → ℕ) (r : ℕ) : Type 0 where
 -- the constant a and five coefficients as a message; those from m on are 0
 unfoldable pub message : ℕ → ℕ → ℕ → ℕ → ℕ → ℕ → List ℕ
 message a c0 c1 c2 c3 c4 = a ∷ c0 ∷ c1 ∷ c2 ∷ c3 ∷ c4 ∷ []
+
+-- the message that a candidate holds
+abbrev pub messageOf : Candidate → List ℕ
+messageOf g = message (g .constant) (g .c0) (g .c1) (g .c2) (g .c3) (g .c4)
 
 -- d is the only message that can be near the word w of 2^m places
 pub record OnlyCandidate (q m : ℕ) (w d : List ℕ) : Type 0 where

@@ -8,7 +8,7 @@ ghost use Rattle.code_theory.specs.Question.{isAlphabet};
 ghost use Rattle.swar_lanes.specs.Lane.{Below};
 ghost use Rattle.swar_lanes.specs.Ballot.{laneBit};
 ghost use Rattle.swar_majority.specs.Most.{threeOf, sevenOf, fifteenOf};
-ghost use Rattle.decode_short_candidate.specs.Candidate.{Rest, Chosen, message, CandidateOf, CandidateOfBoth};
+ghost use Rattle.decode_short_candidate.specs.Candidate.{Rest, Chosen, messageOf, CandidateOf, CandidateOfBoth};
 
 // What is left of a word when the word of four coefficients is taken out: the votes for the constant.
 fn rest(q: u64, x: u64, c0: u64, c1: u64, c2: u64, c3: u64) -> u64
@@ -83,7 +83,7 @@ pub struct Candidate {
 // The candidate of a word of 4 places: one vote for each coefficient, and place 0 is the constant.
 pub fn candidate_4(q: u64, x: u64) -> Candidate
     requires { ⌜ (isAlphabet q ≡ true) × Below q x ⌝ }
-    ensures { λ r. ⌜ (r .c2 ≡ 0) × (r .c3 ≡ 0) × (r .c4 ≡ 0) × CandidateOf q 2 x (message (r .constant) (r .c0) (r .c1) (r .c2) (r .c3) (r .c4)) ⌝ }
+    ensures { λ r. ⌜ (r .c2 ≡ 0) × (r .c3 ≡ 0) × (r .c4 ≡ 0) × CandidateOf q 2 x (messageOf r) ⌝ }
 {
     let c0 = symbol(q, swar_lanes::votes_in(q, 0, x));
     let c1 = symbol(q, swar_lanes::votes_in(q, 1, x));
@@ -100,7 +100,7 @@ pub fn candidate_4(q: u64, x: u64) -> Candidate
 // The candidate of a word of 8 places: three of four votes for each coefficient, and three of eight for the constant.
 pub fn candidate_8(q: u64, x: u64) -> Candidate
     requires { ⌜ (isAlphabet q ≡ true) × Below q x ⌝ }
-    ensures { λ r. ⌜ (r .c3 ≡ 0) × (r .c4 ≡ 0) × CandidateOf q 3 x (message (r .constant) (r .c0) (r .c1) (r .c2) (r .c3) (r .c4)) ⌝ }
+    ensures { λ r. ⌜ (r .c3 ≡ 0) × (r .c4 ≡ 0) × CandidateOf q 3 x (messageOf r) ⌝ }
 {
     let c0 = three(q, swar_lanes::votes_in(q, 0, x), 1, 2);
     let c1 = three(q, swar_lanes::votes_in(q, 1, x), 0, 2);
@@ -119,7 +119,7 @@ pub fn candidate_8(q: u64, x: u64) -> Candidate
 // The candidate of a word of 16 places: seven of eight votes for each coefficient, and seven of sixteen for the constant.
 pub fn candidate_16(q: u64, x: u64) -> Candidate
     requires { ⌜ (isAlphabet q ≡ true) × Below q x ⌝ }
-    ensures { λ r. ⌜ (r .c4 ≡ 0) × CandidateOf q 4 x (message (r .constant) (r .c0) (r .c1) (r .c2) (r .c3) (r .c4)) ⌝ }
+    ensures { λ r. ⌜ (r .c4 ≡ 0) × CandidateOf q 4 x (messageOf r) ⌝ }
 {
     let c0 = seven(q, swar_lanes::votes_in(q, 0, x), 1, 2, 3);
     let c1 = seven(q, swar_lanes::votes_in(q, 1, x), 0, 2, 3);
@@ -139,7 +139,7 @@ pub fn candidate_16(q: u64, x: u64) -> Candidate
 // The candidate of a word of 32 places: fifteen of sixteen votes for each coefficient, and fifteen of the first sixteen for the constant.
 pub fn candidate_32(q: u64, x: u64, y: u64) -> Candidate
     requires { ⌜ (isAlphabet q ≡ true) × Below q x × Below q y ⌝ }
-    ensures { λ r. ⌜ CandidateOfBoth q 5 x y (message (r .constant) (r .c0) (r .c1) (r .c2) (r .c3) (r .c4)) ⌝ }
+    ensures { λ r. ⌜ CandidateOfBoth q 5 x y (messageOf r) ⌝ }
 {
     let c0 = fifteen(
         q,

@@ -2,7 +2,7 @@
 use native.Mathlib.Omega.{arith}
 use mathlib.Core.Path.{refl}
 use borrow.Author.Needs.{needs}
-use Rattle.decode_short_candidate.specs.Candidate.{message}
+use Rattle.decode_short_candidate.specs.Candidate.{message, messageOf}
 use Rattle.decode_short_margin.specs.Margins.{placeOf}
 use Rattle.decode_short.proofs.SettleLaws.{front-all, symbols-eight, doubtful, clear}
 use Rattle.decode_short.proofs.read_4.Statement.{statement}
@@ -16,13 +16,13 @@ unfolding message
 returns c =
     let s = c .before .before .before .before .before in
     let t = c .before .before .verify-4 in
-    doubtful (s .args .q) 1 (s .args .word .now) (message (t .result .constant) (t .result .c0) (t .result .c1) (t .result .c2) (t .result .c3) (t .result .c4)) (t .result .wrong) (placeOf (t .result .first)) (s .pre .0) (omega arith) refl (t .ensures) (s .args .s .now) 0 (omega arith)
+    doubtful (s .args .q) 1 (s .args .word .now) (messageOf (t .result .candidate)) (t .result .wrong) (placeOf (t .result .first)) (s .pre .0) (omega arith) refl (t .ensures) (s .args .s .now) 0 (omega arith)
 
 store-3-requires : tie.Need-store-3-requires
 store-3-requires c κs =
     let s = c .before .before .before .before .before .before in
     let t = c .before .before .before .verify-4 in
-    let (a, c0, c1, c2, c3, c4) = symbols-eight (s .args .q) 2 (s .args .word .now) (t .result .constant) (t .result .c0) (t .result .c1) (t .result .c2) (t .result .c3) (t .result .c4) (s .pre .0) (t .ensures .candidate) in
+    let (a, c0, c1, c2, c3, c4) = symbols-eight (s .args .q) 2 (s .args .word .now) (t .result .candidate .constant) (t .result .candidate .c0) (t .result .candidate .c1) (t .result .candidate .c2) (t .result .candidate .c3) (t .result .candidate .c4) (s .pre .0) (t .ensures .candidate) in
     (omega (arith, s .pre .1), a, c0, c1)
 
 same-length : tie.Need-same-length
@@ -34,7 +34,7 @@ returns-2 c =
     let s = c .before .before .before .before .before .before .before .before .before in
     let t = c .before .before .before .before .before .before .verify-4 in
     let f = c .before .before .store-3 in
-    clear (s .args .q) 1 (s .args .word .now) (message (t .result .constant) (t .result .c0) (t .result .c1) (t .result .c2) (t .result .c3) (t .result .c4)) (t .result .wrong) (placeOf (t .result .first)) (s .pre .0) (omega arith) refl (t .ensures) (s .args .s .now) (f .last .0) _ (omega arith) (omega arith) (front-all 3 _ (s .args .s .now) (f .last .0) (omega arith) (s .pre .1) (f .ensures)) (omega arith)
+    clear (s .args .q) 1 (s .args .word .now) (messageOf (t .result .candidate)) (t .result .wrong) (placeOf (t .result .first)) (s .pre .0) (omega arith) refl (t .ensures) (s .args .s .now) (f .last .0) _ (omega arith) (omega arith) (front-all 3 _ (s .args .s .now) (f .last .0) (omega arith) (s .pre .1) (f .ensures)) (omega arith)
 
 pub read-4-spec : {M : Type 1} → statement M
 read-4-spec = tie.close (tie.spec verify-4-requires returns store-3-requires same-length returns-2)
