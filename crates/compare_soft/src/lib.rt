@@ -1,11 +1,11 @@
 // The soft calls for a program that compares them with another implementation; nothing else uses this crate.
 use soft::SoftRead;
-use soft_decision::SoftVote;
-use soft_vote_sums::Sums;
+use soft::SoftVote;
+use soft::Sums;
 ghost use mathlib.Core.Path.{_≡_};
 ghost use Rattle.soft_theory.specs.Numbers.{f32};
 ghost use Rattle.soft_theory.specs.Soft.{softVote, readAnswer, readMessage};
-ghost use Rattle.soft_vote_sums.specs.Pair.{pair};
+ghost use Rattle.soft.specs.Pair.{pair};
 ghost use Rattle.compare_soft.specs.Numbers.{voteNumber, withSums, voteSums, readNumber};
 
 // Puts the sums into a slice of two.
