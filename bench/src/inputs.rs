@@ -2,7 +2,7 @@
 
 use crate::calls::{plain_read, safe_write};
 
-/// How many inputs of each kind: so many that a processor cannot learn by heart which way each of them goes.
+/// How many inputs of each kind: too many for the branch predictor.
 pub const COUNT: usize = 1024;
 
 /// A xorshift generator: the same inputs in every run.

@@ -1,4 +1,4 @@
-//! Times competitors in turns, so that whatever else the machine does falls on all of them alike.
+//! Times competitors alternately, so that whatever else the machine does falls on all of them alike.
 
 use std::time::{Duration, Instant};
 
