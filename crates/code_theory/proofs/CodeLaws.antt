@@ -16,7 +16,7 @@ use Rattle.code_theory.proofs.IndexLaws.{bit-zero, bit-suc, bit-low}
 use Rattle.code_theory.proofs.ModularLaws.{differ-le, differ-le-lee}
 
 -- the coefficient of bit 0, and those of the bits above
-linear-first : (m : ℕ) (c : ℕ → ℕ) (i : ℕ) → linear (suc m) c i ≡ c 0 * (i % 2) + linear m (λ k. c (suc k)) (i / 2)
+pub linear-first : (m : ℕ) (c : ℕ → ℕ) (i : ℕ) → linear (suc m) c i ≡ c 0 * (i % 2) + linear m (λ k. c (suc k)) (i / 2)
 unfolding linear
 linear-first m c i = sum-first m (λ k. c k * bit k i) ∙ ap₂ (λ x y. c 0 * x + y) (bit-zero i) (sum-ext m _ _ (λ k l. ap (λ x. c (suc k) * x) (bit-suc k i)))
 

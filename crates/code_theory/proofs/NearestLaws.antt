@@ -17,11 +17,11 @@ use Rattle.code_theory.specs.Vote.{Winners}
 use Rattle.code_theory.specs.Nearest.{prefixed, messages, firstOr, find, isNear, nearest, isReadable, nearMessage}
 use Rattle.code_theory.proofs.WinnerLaws.{near-wins, winners-near}
 
-none≢some : (t : List ℕ) → none ≡ some t → ⊥
+pub none≢some : (t : List ℕ) → none ≡ some t → ⊥
 none≢some t e = let z : _≡_ {A = ℕ} 0 1 = cc in omega arith
 
 -- what is found passes the test and stands in the list
-find-some : (passes : List ℕ → Bool) (ts : List (List ℕ)) (t : List ℕ) → find passes ts ≡ some t → (passes t ≡ true) × List·Memᴰ t ts
+pub find-some : (passes : List ℕ → Bool) (ts : List (List ℕ)) (t : List ℕ) → find passes ts ≡ some t → (passes t ≡ true) × List·Memᴰ t ts
 unfolding find firstOr
 find-some passes [] t e = absurd (none≢some t e)
 find-some passes (x ∷ ts) t e = go (passes x) refl (find-some passes ts t) e
@@ -31,7 +31,7 @@ find-some passes (x ∷ ts) t e = go (passes x) refl (find-some passes ts t) e
     go false p ih e = let (a, b) = ih e in (a, List·Memᴰ·tail b)
 
 -- where nothing is found, nothing in the list passes
-find-none : (passes : List ℕ → Bool) (ts : List (List ℕ)) → find passes ts ≡ none → (t : List ℕ) → List·Memᴰ t ts → passes t ≡ false
+pub find-none : (passes : List ℕ → Bool) (ts : List (List ℕ)) → find passes ts ≡ none → (t : List ℕ) → List·Memᴰ t ts → passes t ≡ false
 unfolding find firstOr
 find-none passes [] e t i = absurd (List·Memᴰ·not-nil i)
 find-none passes (x ∷ ts) e t i = go (passes x) refl (λ f. find-none passes ts f t) e (List·Memᴰ·cases-cons i)
@@ -68,7 +68,7 @@ mem-prefixed (suc n) ts s r l i = go (λ h. mem-prefixed n ts s r h i) (eq-or-lt
     go ih (inr h) = Memᴰ·append-left (map (λ t. n ∷ t) ts) (ih h)
 
 -- the list of all messages holds lists of l symbols below q, and each of them
-messages-sound : (q l : ℕ) (t : List ℕ) → List·Memᴰ t (messages q l) → Symbols q l t
+pub messages-sound : (q l : ℕ) (t : List ℕ) → List·Memᴰ t (messages q l) → Symbols q l t
 unfolding messages
 messages-sound q zero t i = rw (List·Memᴰ·eq-of-singleton i) (record { size = refl; below = λ j h. absurd (not-suc-le-zero h) })
 messages-sound q (suc l) t i =
@@ -80,7 +80,7 @@ messages-sound q (suc l) t i =
     more s r h b zero k = h
     more s r h b (suc i) k = b i (le-of-suc-le-suc k)
 
-messages-complete : (q l : ℕ) (t : List ℕ) → Symbols q l t → List·Memᴰ t (messages q l)
+pub messages-complete : (q l : ℕ) (t : List ℕ) → Symbols q l t → List·Memᴰ t (messages q l)
 unfolding messages
 messages-complete q zero [] y = List·Memᴰ·head refl
 messages-complete q zero (x ∷ t) y = absurd (omega (arith, y .size))

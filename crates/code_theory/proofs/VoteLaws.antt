@@ -54,7 +54,7 @@ unfolding residue symbolAt
 right-residue q m s y i hq hy e = rw (← e, add-subMod, mod-eq-of-lt hy)
 
 -- an undamaged pair casts the coefficient
-vote-right : (q m k : ℕ) (s : ℕ → ℕ) (i : ℕ) → 0 < q → k < m → s (suc k) < q → bit k i ≡ 0 → vote q k (symbolAt q m s) i ≡ s (suc k)
+pub vote-right : (q m k : ℕ) (s : ℕ → ℕ) (i : ℕ) → 0 < q → k < m → s (suc k) < q → bit k i ≡ 0 → vote q k (symbolAt q m s) i ≡ s (suc k)
 unfolding vote symbolAt
 vote-right q m k s i hq hk hs z =
     let e : s 0 + (linear m (λ j. s (suc j)) i + s (suc k)) ≡ s (suc k) + (s 0 + linear m (λ j. s (suc j)) i) = omega arith in
