@@ -1,11 +1,13 @@
 -- Laws of the word of a message and of the distance. Assumes nothing.
 use Prim.Native.Nat.{ℕ, zero, suc, _+_, _*_, _-_, _/_, _%_, _^_, _≤_, _<_, min}
 use mathlib.Core.Path.{_≡_, refl, ap, ap₂, sym, _∙_}
+use mathlib.Core.Logic.{_⊎_, inl, inr}
 use mathlib.Core.List.{List}
-use native.Mathlib.Nat.{mod-lt, not-suc-le-zero}
+use native.Mathlib.Nat.{mod-lt, not-suc-le-zero, eq-or-lt-of-le, le-of-suc-le-suc}
 use native.Mathlib.Numerals.{add-one}
 use native.Mathlib.Omega.{arith}
 use lib.ListN.{length}
+use lib.Pow.{pow-mono}
 use Rattle.code_theory.specs.Sum.{sum, tabulate, at}
 use Rattle.code_theory.specs.Index.{bit}
 use Rattle.code_theory.specs.Modular.{subMod, differ}
@@ -34,14 +36,22 @@ linear-partner (suc k) (suc m) h c i z =
     let ih : linear m (λ j. c (suc j)) (i / 2 + 2 ^ k) ≡ linear m (λ j. c (suc j)) (i / 2) + c (suc k) = linear-partner k m (omega arith) (λ j. c (suc j)) (i / 2) (sym (bit-suc k i) ∙ z) in
     rw (linear-first m c (i + 2 ^ suc k), linear-first m c i, e1, e2) (omega arith)
 
--- a coefficient more adds nothing below 2 ^ m
-pub linear-low : (m : ℕ) (c : ℕ → ℕ) (i : ℕ) → i < 2 ^ m → linear (suc m) c i ≡ linear m c i
+-- the coefficients from m on add nothing to an index below 2 ^ m
+pub linear-low : (m n : ℕ) (c : ℕ → ℕ) (i : ℕ) → m ≤ n → i < 2 ^ m → linear n c i ≡ linear m c i
 unfolding linear sum
-linear-low m c i l = rw (bit-low m i l) (omega arith)
+linear-low m zero c i h l = let e : 0 ≡ m = omega arith in ap (λ z. linear z c i) e
+linear-low m (suc n) c i h l = go (eq-or-lt-of-le h) (linear-low m n c i)
+  where
+    go : (m ≡ suc n) ⊎ (m < suc n) → (m ≤ n → i < 2 ^ m → linear n c i ≡ linear m c i) → linear n c i + c n * bit n i ≡ linear m c i
+    go (inl e) ih = ap (λ z. linear z c i) (sym e)
+    go (inr k) ih =
+        let e : linear n c i ≡ linear m c i = ih (le-of-suc-le-suc k) l in
+        let z : bit n i ≡ 0 = bit-low n i (omega (arith, pow-mono {i = m} {j = n} (le-of-suc-le-suc k))) in
+        rw z (omega (arith, e))
 
--- and itself from there on
+-- coefficient m adds itself to the 2 ^ m indices after them
 pub linear-high : (m : ℕ) (c : ℕ → ℕ) (i : ℕ) → i < 2 ^ m → linear (suc m) c (i + 2 ^ m) ≡ linear m c i + c m
-linear-high m c i l = linear-partner m (suc m) (omega arith) c i (bit-low m i l) ∙ ap (λ x. x + c m) (linear-low m c i l)
+linear-high m c i l = linear-partner m (suc m) (omega arith) c i (bit-low m i l) ∙ ap (λ x. x + c m) (linear-low m (suc m) c i (omega arith) l)
 
 pub linear-ext : (m : ℕ) (c d : ℕ → ℕ) → ((k : ℕ) → k < m → c k ≡ d k) → (i : ℕ) → linear m c i ≡ linear m d i
 unfolding linear

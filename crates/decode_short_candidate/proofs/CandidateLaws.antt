@@ -254,7 +254,7 @@ module _ (q x y : ℕ) (al : isAlphabet q ≡ true) (s : ℕ → ℕ) (w : List 
       omega (
         arith,
         near,
-        own-first q 5 x al s w hs held y held′ c0 c1 c2 c3 d refl b b′ left (λ i h. plain-4 q c0 c1 c2 c3 s e0 e1 e2 e3 i ∙ ap (λ z. z % q) (sym (linear-low 4 (λ k. s (suc k)) i h))),
+        own-first q 5 x al s w hs held y held′ c0 c1 c2 c3 d refl b b′ left (λ i h. plain-4 q c0 c1 c2 c3 s e0 e1 e2 e3 i ∙ ap (λ z. z % q) (sym (linear-low 4 5 (λ k. s (suc k)) i (omega arith) h))),
         all-halves d (s 0),
         open-16-3 d (s 0),
         open-16-3 (d / 2 ^ 4) (s 0),

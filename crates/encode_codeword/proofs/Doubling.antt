@@ -60,7 +60,7 @@ doubled-all q len a w v i e d = rw e at d
 module _ (q k : ℕ) (s w v : List ℕ) (d : Coded q k s w) (t : Doubled q (2 ^ k) (at s (suc k)) w v (2 ^ k)) where
   low-half : (i : ℕ) → i < 2 ^ k → at v i ≡ symbolAt q (suc k) (at s) i
   unfolding symbolAt
-  low-half i l = t .low i l ∙ d .each i l ∙ ap (λ x. (at s 0 + x) % q) (sym (linear-low k (λ j. at s (suc j)) i l))
+  low-half i l = t .low i l ∙ d .each i l ∙ ap (λ x. (at s 0 + x) % q) (sym (linear-low k (suc k) (λ j. at s (suc j)) i (omega arith) l))
 
   high-half : (i : ℕ) → i < 2 ^ k → at v (i + 2 ^ k) ≡ symbolAt q (suc k) (at s) (i + 2 ^ k)
   unfolding symbolAt

@@ -58,7 +58,7 @@ module _ (s : ℕ → ℕ) (p : ℕ) (h : (k : ℕ) → k < 4 → s k < 8) (four
   unfolding unreduced
   eight-holds =
       hold-shifted 4 4 p (p + s 3 * 16843009) (unreduced 3 s)
-      (hold-ext 4 p _ _ (λ l k. ap (λ x. s 0 + x) (sym (linear-low 2 (λ k. s (suc k)) l k))) four)
+      (hold-ext 4 p _ _ (λ l k. ap (λ x. s 0 + x) (sym (linear-low 2 3 (λ k. s (suc k)) l (omega arith) k))) four)
       (hold-ext 4 _ _ _ (λ l k. high l k) upper-four)
       (omega arith)
     where
