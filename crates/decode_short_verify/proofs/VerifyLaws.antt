@@ -1,12 +1,11 @@
 -- The errors of a word place by place, and their number. Assumes nothing.
 use Prim.Native.Nat.{ℕ, zero, suc, _+_, _*_, _-_, _/_, _%_, _^_, _≤_, _<_}
 use mathlib.Core.Path.{_≡_, refl, ap, ap₂, sym, _∙_}
-use mathlib.Core.Logic.{_⊎_, inl, inr}
 use mathlib.Core.Bool.{true, false, cond}
 use mathlib.Core.List.{List, [], _∷_}
 use native.Mathlib.Decide.{decLt}
 use native.Mathlib.Omega.{arith}
-use native.Mathlib.Nat.{zero-add, mul-zero, mul-one, add-zero, mod-lt, mod-add-mod, eq-or-lt-of-le, le-of-suc-le-suc, not-suc-le-zero}
+use native.Mathlib.Nat.{zero-add, mod-add-mod}
 use borrow.Author.Tests.{lt-ltb, le-ltb, ltb-true, leb-true}
 use lib.Dec.{leb, ltb}
 use lib.ListN.{length}
@@ -18,8 +17,8 @@ use Rattle.code_theory.specs.Code.{linear, symbolAt}
 use Rattle.code_theory.specs.Near.{distance}
 use Rattle.code_theory.specs.Question.{isAlphabet}
 use Rattle.code_theory.proofs.SumLaws.{sum-ext, sum-split}
-use Rattle.code_theory.proofs.IndexLaws.{bit-low, second-low, second-set}
-use Rattle.code_theory.proofs.CodeLaws.{linear-ext}
+use Rattle.code_theory.proofs.IndexLaws.{second-low, second-set}
+use Rattle.code_theory.proofs.CodeLaws.{linear-low}
 use Rattle.code_theory.proofs.ModularLaws.{subMod-lt}
 use Rattle.code_theory.proofs.ErrorLaws.{error, error-distance}
 use Rattle.swar_theory.specs.Digit.{digit}
@@ -47,21 +46,6 @@ left-is q x a c0 c1 c2 c3 code r h e f t k =
 
 pub left-below : (q x a c0 c1 c2 c3 r : ℕ) → 0 < q → Left q x a c0 c1 c2 c3 r → Below q r
 left-below q x a c0 c1 c2 c3 r h l t k = omega (arith, l t k, subMod-lt q (digit 4 x t) (symbolAt q 4 (at (message a c0 c1 c2 c3 0)) (offset t)) h)
-
--- coefficients from m on add nothing to a place below 2^m
-linear-low : (m n : ℕ) (c : ℕ → ℕ) (i : ℕ) → m ≤ n → i < 2 ^ m → linear n c i ≡ linear m c i
-unfolding linear sum
-linear-low m zero c i h l = ap (λ z. linear z c i) (let e : 0 ≡ m = omega arith in e)
-linear-low m (suc n) c i h l = go (eq-or-lt-of-le h) (linear-low m n c i)
-  where
-    go : (m ≡ suc n) ⊎ (m < suc n) → (m ≤ n → i < 2 ^ m → linear n c i ≡ linear m c i) → linear n c i + c n * bit n i ≡ linear m c i
-    go (inl e) ih = ap (λ z. linear z c i) (sym e)
-    go (inr k) ih =
-        let j : m ≤ n = le-of-suc-le-suc k in
-        ap (λ z. linear n c i + c n * z) (bit-low n i (lt-pow j)) ∙ ap (λ z. linear n c i + z) (mul-zero (c n)) ∙ add-zero (linear n c i) ∙ ih j l
-      where
-        lt-pow : m ≤ n → i < 2 ^ n
-        lt-pow j = omega (arith, pow-mono {i = m} {j = n} j)
 
 pub symbol-low : (q m n : ℕ) (s : ℕ → ℕ) (i : ℕ) → m ≤ n → i < 2 ^ m → symbolAt q n s i ≡ symbolAt q m s i
 unfolding symbolAt
