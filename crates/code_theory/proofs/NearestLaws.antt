@@ -14,7 +14,7 @@ use Rattle.code_theory.specs.Sum.{at}
 use Rattle.code_theory.specs.Code.{Symbols}
 use Rattle.code_theory.specs.Near.{distance, Near}
 use Rattle.code_theory.specs.Vote.{Winners}
-use Rattle.code_theory.specs.Nearest.{prefixed, messages, firstOr, find, isNear, nearest, isReadable, nearMessage}
+use Rattle.code_theory.specs.Nearest.{prefixed, messages, firstOr, find, isFound, orEmpty, isNear, nearest, isReadable, nearMessage}
 use Rattle.code_theory.proofs.WinnerLaws.{near-wins, winners-near}
 
 pub none≢some : (t : List ℕ) → none ≡ some t → ⊥
@@ -148,11 +148,11 @@ none-near q m y e t h n =
 
 -- what the reading gives where a message is found, and where none is
 pub readable : (q m : ℕ) (y t : List ℕ) → nearest q m y ≡ some t → (isReadable q m y ≡ true) × (nearMessage q m y ≡ t)
-unfolding isReadable nearMessage
+unfolding isReadable nearMessage isFound orEmpty
 readable q m y t e = (rw e, rw e)
 
 pub unreadable : (q m : ℕ) (y : List ℕ) → nearest q m y ≡ none → isReadable q m y ≡ false
-unfolding isReadable
+unfolding isReadable isFound
 unreadable q m y e = rw e
 
 -- THE READER'S LAW: the one candidate t is what the word reads as if it is near, and else the word is doubtful

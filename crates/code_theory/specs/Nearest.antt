@@ -28,6 +28,16 @@ unfoldable pub find : (List ℕ → Bool) → List (List ℕ) → Option (List �
 find passes [] = none
 find passes (t ∷ ts) = firstOr (passes t) t (find passes ts)
 
+-- whether a search found a message
+unfoldable pub isFound : Option (List ℕ) → Bool
+isFound none = false
+isFound (some t) = true
+
+-- the message that a search found, the empty list where it found none
+unfoldable pub orEmpty : Option (List ℕ) → List ℕ
+orEmpty none = []
+orEmpty (some t) = t
+
 -- whether the message t is near the word y
 unfoldable pub isNear : ℕ → ℕ → List ℕ → List ℕ → Bool
 isNear q m y t = ltb (4 * distance q m (at t) (at y)) (2 ^ m)
@@ -38,19 +48,11 @@ nearest q m y = find (isNear q m y) (messages q (suc m))
 
 -- whether some message is near
 unfoldable pub isReadable : ℕ → ℕ → List ℕ → Bool
-isReadable q m y = isSome (nearest q m y)
-  where
-    isSome : Option (List ℕ) → Bool
-    isSome none = false
-    isSome (some t) = true
+isReadable q m y = isFound (nearest q m y)
 
 -- the near message where there is one
 unfoldable pub nearMessage : ℕ → ℕ → List ℕ → List ℕ
 nearMessage q m y = orEmpty (nearest q m y)
-  where
-    orEmpty : Option (List ℕ) → List ℕ
-    orEmpty none = []
-    orEmpty (some t) = t
 
 -- its count of differing places, and its margin
 unfoldable pub nearDistance : ℕ → ℕ → List ℕ → ℕ

@@ -7,7 +7,7 @@ use Rattle.code_theory.specs.Code.{linear, symbolAt, codeword}
 use Rattle.code_theory.specs.Near.{distance}
 use Rattle.code_theory.specs.Vote.{count, vote, votes, residue, residues, tally}
 use Rattle.code_theory.specs.Margin.{mostOther, lead, least, margin}
-use Rattle.code_theory.specs.Nearest.{prefixed, messages, firstOr, find, isNear, nearest, isReadable, nearMessage, nearDistance, nearMargin}
+use Rattle.code_theory.specs.Nearest.{prefixed, messages, firstOr, find, isFound, orEmpty, isNear, nearest, isReadable, nearMessage, nearDistance, nearMargin}
 use Rattle.code_theory.specs.Question.{ask, isAlphabet, isVariables, isMessageSize, isWordSize, allBelow, answer, after}
 use Rattle.codec.specs.Codec.{encodeRefusal, encodeAnswer, encodeWord, decodeRefusal, decodeAnswer, decodeMessage}
 use Rattle.session_slot.specs.Slot.{slotTime}
@@ -19,5 +19,5 @@ use Rattle.example_theory.specs.Case.{votesInOrder, Holds, AllHold}
 use Rattle.example_theory.specs.Lake.{lake}
 
 pub lake-holds : AllHold lake
-unfolding sum tabulate bit ifClear subMod same differ linear symbolAt codeword distance count vote votes residue residues tally mostOther lead least margin prefixed messages firstOr find isNear nearest isReadable nearMessage nearDistance nearMargin ask isAlphabet isVariables isMessageSize isWordSize allBelow answer after encodeRefusal encodeAnswer encodeWord decodeRefusal decodeAnswer decodeMessage slotTime soundSender sendRefusal sendAnswer sendConstant sendSession isBelow isMissing soundReceiver receiveRefusal missRefusal receiveConstant zoneFrom receiveDelivery zoneValues deliveryValues receiveAnswer nextReceiver afterReceive receiveSession missAnswer missSession digit strapMessage isZone packRefusal packAnswer packMessage magnitude isClear decideBy decide votesInOrder Holds AllHold
+unfolding sum tabulate bit ifClear subMod same differ linear symbolAt codeword distance count vote votes residue residues tally mostOther lead least margin prefixed messages firstOr find isFound orEmpty isNear nearest isReadable nearMessage nearDistance nearMargin ask isAlphabet isVariables isMessageSize isWordSize allBelow answer after encodeRefusal encodeAnswer encodeWord decodeRefusal decodeAnswer decodeMessage slotTime soundSender sendRefusal sendAnswer sendConstant sendSession isBelow isMissing soundReceiver receiveRefusal missRefusal receiveConstant zoneFrom receiveDelivery zoneValues deliveryValues receiveAnswer nextReceiver afterReceive receiveSession missAnswer missSession digit strapMessage isZone packRefusal packAnswer packMessage magnitude isClear decideBy decide votesInOrder Holds AllHold
 lake-holds = ((refl, refl), ((refl, refl), (refl, ((refl, refl), ((refl, refl), (((refl, refl), (refl, refl)), ((refl, refl), ((refl, refl), ((refl, refl), ((refl, refl), ((refl, (refl, refl)), ((((refl, refl), (refl, refl)), (((refl, refl), (refl, refl)), ((refl, refl), (refl, refl)))), tt))))))))))))

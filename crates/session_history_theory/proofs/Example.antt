@@ -11,7 +11,7 @@ use Rattle.code_theory.specs.Near.{distance}
 use Rattle.code_theory.specs.Vote.{count, vote, votes, residue, residues, tally}
 use Rattle.code_theory.specs.Margin.{mostOther, lead, least, margin}
 use Rattle.code_theory.specs.Turn.{turn, altered}
-use Rattle.code_theory.specs.Nearest.{prefixed, messages, firstOr, find, isNear, nearest, isReadable, nearMessage, nearDistance, nearMargin}
+use Rattle.code_theory.specs.Nearest.{prefixed, messages, firstOr, find, isFound, orEmpty, isNear, nearest, isReadable, nearMessage, nearDistance, nearMargin}
 use Rattle.code_theory.specs.Question.{ask, isAlphabet, isVariables, isMessageSize, isWordSize, allBelow, answer, after}
 use Rattle.session_slot.specs.Slot.{slotTime}
 use Rattle.session_sender.specs.Sending.{soundSender, sendRefusal, sendAnswer, sendConstant, sendSession, sendWord}
@@ -49,7 +49,7 @@ pub received-slots : receiverSlots (listening 2 2) calls
     ∷ missed
     ∷ doubtful (0 ∷ 0 ∷ 0 ∷ 1 ∷ [])
     ∷ []
-unfolding slotsOf ifAccepted ifReceived receiverCall receiverSlot isBelow isMissing soundReceiver receiveRefusal missRefusal receiveConstant zoneFrom zoneSymbol receiveDelivery zoneValues deliveryValues receiveAnswer receiveMessage nextReceiver afterReceive receiveSession missAnswer missSession slotTime ask answer after isAlphabet isVariables isMessageSize isWordSize allBelow prefixed messages firstOr find isNear nearest isReadable nearMessage nearDistance nearMargin distance differ symbolAt linear sum bit margin least lead mostOther tally residues residue count vote votes ifClear same subMod
+unfolding slotsOf ifAccepted ifReceived receiverCall receiverSlot isBelow isMissing soundReceiver receiveRefusal missRefusal receiveConstant zoneFrom zoneSymbol receiveDelivery zoneValues deliveryValues receiveAnswer receiveMessage nextReceiver afterReceive receiveSession missAnswer missSession slotTime ask answer after isAlphabet isVariables isMessageSize isWordSize allBelow prefixed messages firstOr find isFound orEmpty isNear nearest isReadable nearMessage nearDistance nearMargin distance differ symbolAt linear sum bit margin least lead mostOther tally residues residue count vote votes ifClear same subMod
 received-slots = refl
 
 -- slots 0 and 1 are such words
