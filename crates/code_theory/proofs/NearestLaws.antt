@@ -10,15 +10,20 @@ use native.Mathlib.Omega.{arith}
 use lib.ListN.{length}
 use lib.Seq.{ext-getD}
 use borrow.Author.Tests.{ltb-true, ltb-false, lt-ltb}
-use Rattle.code_theory.specs.Sum.{at}
+use Rattle.code_theory.specs.Sum.{tabulate, at}
 use Rattle.code_theory.specs.Code.{Symbols}
 use Rattle.code_theory.specs.Near.{distance, Near}
 use Rattle.code_theory.specs.Vote.{Winners}
-use Rattle.code_theory.specs.Nearest.{prefixed, messages, firstOr, find, isFound, orEmpty, isNear, nearest, isReadable, nearMessage}
-use Rattle.code_theory.proofs.WinnerLaws.{near-wins, winners-near}
+use Rattle.code_theory.specs.Nearest.{prefixed, messages, firstOr, find, isFound, orEmpty, isNear, nearest, isReadable, nearMessage, nearDistance}
+use Rattle.code_theory.proofs.SumLaws.{tabulate-length, tabulate-at}
+use Rattle.code_theory.proofs.CodeLaws.{distance-ext}
+use Rattle.code_theory.proofs.WinnerLaws.{Below, near-wins, winners-near}
 
 pub none≢some : (t : List ℕ) → none ≡ some t → ⊥
 none≢some t e = let z : _≡_ {A = ℕ} 0 1 = cc in omega arith
+
+true≢false : true ≡ false → ⊥
+true≢false e = let z : _≡_ {A = ℕ} 0 1 = cc in omega arith
 
 -- what is found passes the test and stands in the list
 pub find-some : (passes : List ℕ → Bool) (ts : List (List ℕ)) (t : List ℕ) → find passes ts ≡ some t → (passes t ≡ true) × List·Memᴰ t ts
@@ -95,9 +100,6 @@ pub decided : (q l : ℕ) (passes : List ℕ → Bool) (t : List ℕ) → Symbol
 unfolding firstOr
 decided q l passes t y only = go (find passes (messages q l)) refl (passes t) refl
   where
-    true≢false : true ≡ false → ⊥
-    true≢false e = let z : _≡_ {A = ℕ} 0 1 = cc in omega arith
-
     go : (o : Option (List ℕ)) → find passes (messages q l) ≡ o → (b : Bool) → passes t ≡ b → o ≡ firstOr b t none
     go none e true p = absurd (true≢false (sym p ∙ find-none passes (messages q l) e t (messages-complete q l t y)))
     go none e false p = refl
@@ -143,8 +145,7 @@ pub none-near : (q m : ℕ) (y : List ℕ) → nearest q m y ≡ none → (t : L
 unfolding nearest
 none-near q m y e t h n =
     let p : isNear q m y t ≡ false = find-none (isNear q m y) (messages q (suc m)) e t (messages-complete q (suc m) t h) in
-    let z : true ≡ false = sym (near-true q m y t n) ∙ p in
-    let x : _≡_ {A = ℕ} 0 1 = cc in omega arith
+    true≢false (sym (near-true q m y t n) ∙ p)
 
 -- what the reading gives where a message is found, and where none is
 pub readable : (q m : ℕ) (y t : List ℕ) → nearest q m y ≡ some t → (isReadable q m y ≡ true) × (nearMessage q m y ≡ t)
@@ -154,6 +155,30 @@ readable q m y t e = (rw e, rw e)
 pub unreadable : (q m : ℕ) (y : List ℕ) → nearest q m y ≡ none → isReadable q m y ≡ false
 unfolding isReadable isFound
 unreadable q m y e = rw e
+
+-- a readable word has a near message
+pub readable-found : (q m : ℕ) (y : List ℕ) → isReadable q m y ≡ true → nearest q m y ≡ some (nearMessage q m y)
+readable-found q m y e = go (nearest q m y) refl
+  where
+    go : (o : Option (List ℕ)) → nearest q m y ≡ o → nearest q m y ≡ some (nearMessage q m y)
+    go none f = absurd (true≢false (sym e ∙ unreadable q m y f))
+    go (some t) f = f ∙ ap some (sym (readable q m y t f .1))
+
+-- what is read is a message
+pub read-symbols : (q m : ℕ) (y : List ℕ) → isReadable q m y ≡ true → Symbols q (suc m) (nearMessage q m y)
+read-symbols q m y e = found-near q m y (nearMessage q m y) (readable-found q m y e) .0
+
+-- a near message that is given by its symbols is what the word reads as
+pub near-reads : (q m : ℕ) → 0 < q → (y : List ℕ) (s : ℕ → ℕ) → Below q m s → Near q m s (at y)
+    → (isReadable q m y ≡ true) × (nearDistance q m y ≡ distance q m s (at y)) × ((k : ℕ) → k < suc m → at (nearMessage q m y) k ≡ s k)
+unfolding nearDistance
+near-reads q m hq y s h n =
+    let t : List ℕ = tabulate (suc m) s in
+    let e : (k : ℕ) → k < suc m → at t k ≡ s k = tabulate-at (suc m) s in
+    let d : distance q m (at t) (at y) ≡ distance q m s (at y) = distance-ext q m (at t) s (at y) (at y) e (λ i l. refl) in
+    let x : Symbols q (suc m) t = record { size = tabulate-length (suc m) s; below = λ k l. subst (λ z. z < q) (sym (e k l)) (h k l) } in
+    let r = readable q m y t (near-found q m hq y t x (omega (arith, d, n))) in
+    (r .0, ap (λ z. distance q m (at z) (at y)) (r .1) ∙ d, λ k l. ap (λ z. at z k) (r .1) ∙ e k l)
 
 -- THE READER'S LAW: the one candidate t is what the word reads as if it is near, and else the word is doubtful
 pub record Reads (q m : ℕ) (y t : List ℕ) : Type 0 where

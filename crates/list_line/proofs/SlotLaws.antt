@@ -15,6 +15,7 @@ use Rattle.code_theory.specs.Code.{Symbols}
 use Rattle.code_theory.specs.Modular.{subMod}
 use Rattle.code_theory.specs.Nearest.{isReadable, nearMessage}
 use Rattle.code_theory.specs.Question.{ask, isMessageSize, allBelow, Answer, accepted, refused, answer, after}
+use Rattle.code_theory.proofs.NearestLaws.{read-symbols}
 use Rattle.code_theory.proofs.QuestionLaws.{message-yes, below-all, after-yes, after-no, answer-accepted, answer-refused}
 use Rattle.strap.specs.Strap.{rateOf, unpackRefusal, unpackAnswer, unpacked}
 use Rattle.strap.specs.declared.Report.{Report}
@@ -36,7 +37,7 @@ use Rattle.session_receiver.specs.declared.Missed.the-variants as M
 use Rattle.session_slot.specs.Slot.{slots, slotTime}
 use Rattle.text_lines.specs.Line.{Line, slot, miss, bad}
 use Rattle.list_line.specs.Listing.{readingText, doubtfulText, missedText, overText, badText, blank, deliveryText, lineText, lineSession, lineEnds}
-use Rattle.session_receiver.proofs.SoundLaws.{ReceiveYes, receive-yes, receive-doubtful, miss-yes, near-symbols}
+use Rattle.session_receiver.proofs.SoundLaws.{ReceiveYes, receive-yes, receive-doubtful, miss-yes}
 
 -- what Receive changes, by the number
 pub after-read : {A : Type 0} (n : ℕ) (x y z : A) → n ≡ 0 → afterReceive n x y z ≡ x
@@ -85,7 +86,7 @@ first-set q l t x p y h = record { size = length-set t 0 x ∙ y .size; below = 
 pub unpacks : (s : Receiver) (m w : List ℕ) → s .q ≡ 4 → s .m ≡ 4 → receiveRefusal s m w ≡ 0 → unpackRefusal (receiveMessage s m w) ≡ 0
 unfolding receiveMessage receiveDelivery
 unpacks s m w q o n =
-    let y = near-symbols (s .q) (s .m) w (receive-yes s m w n .1) in
+    let y = read-symbols (s .q) (s .m) w (receive-yes s m w n .1) in
     let z = zone-below (s .q) (s .reference) (receiveConstant (s .q) (s .m) w) (omega arith) in
     let f = first-set (s .q) (suc (s .m)) (nearMessage (s .q) (s .m) w) _ (omega arith) y z in
     ap unpackRefusal (after-yes (receiveRefusal s m w) _ m n)

@@ -17,7 +17,7 @@ use Rattle.code_theory.specs.Turn.{altered}
 use Rattle.code_theory.specs.Nearest.{nearest, isReadable, nearMessage, nearDistance}
 use Rattle.code_theory.specs.Question.{isAlphabet, isVariables}
 use Rattle.code_theory.proofs.TurnLaws.{never-both, altered-set, nearest-turned, subMod-turned}
-use Rattle.code_theory.proofs.NearestLaws.{readable}
+use Rattle.code_theory.proofs.NearestLaws.{readable, read-symbols}
 use Rattle.session_sender.specs.declared.Sender.{Sender}
 use Rattle.session_receiver.specs.declared.Receiver.{Receiver}
 use Rattle.session_receiver.specs.declared.Delivery.{Delivery}
@@ -29,7 +29,7 @@ use Rattle.session_slot.specs.Slot.{slots, slotTime}
 use Rattle.session_sender.specs.Sending.{openSender, sendRefusal, sendConstant}
 use Rattle.session_receiver.specs.Receiving.{openReceiver, isBelow, isMissing, receiveRefusal, missRefusal, receiveConstant, zoneFrom, zoneSymbol, receiveDelivery, zoneValues, deliveryValues, nextReceiver}
 use Rattle.code_theory.proofs.QuestionLaws.{alphabet-positive}
-use Rattle.session_receiver.proofs.SoundLaws.{receiver-opened, receiver-sound, near-symbols}
+use Rattle.session_receiver.proofs.SoundLaws.{receiver-opened, receiver-sound}
 use Rattle.session_sender.proofs.SoundLaws.{sender-opened, sender-sound}
 use Rattle.session_history_theory.specs.Calls.{Send, SenderSlot, senderCall, senderSlot, senderSlots, senderAfter, ReceiverCall, ReceiverSlot, read, doubtful, missed, receiverCall, receiverSlot, receiverSlots, receiverAfter}
 use Rattle.session_history_theory.specs.Whole.{wordOf, Such, Accepted, Unmeasured, first, afterMissed, afterDoubtful, WholeSessions}
@@ -88,7 +88,7 @@ read-from q m n s word message delivery h (r, e, v) =
 read-place : (q m : ℕ) (reference : Reference) (used : ℕ) (word message : List ℕ) (delivery : Delivery) → ReadFrom q m reference used word message delivery
     → at message 0 ≡ zoneSymbol (delivery .zone)
 read-place q m reference used word message delivery f =
-    ap (λ l. at l 0) (f .message) ∙ getD-set-same (nearMessage q m word) 0 _ 0 (omega (arith, near-symbols q m word (f .readable) .size))
+    ap (λ l. at l 0) (f .message) ∙ getD-set-same (nearMessage q m word) 0 _ 0 (omega (arith, read-symbols q m word (f .readable) .size))
 
 -- a slot that stands before a slot
 earlier : {A : Type 0} (xs : List A) (i : ℕ) (a : A) → getElem? xs (suc i) ≡ some a → (b : A) × (getElem? xs i ≡ some b)
