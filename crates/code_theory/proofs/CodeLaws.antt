@@ -9,12 +9,12 @@ use native.Mathlib.Omega.{arith}
 use lib.ListN.{length}
 use lib.Pow.{pow-mono}
 use Rattle.code_theory.specs.Sum.{sum, tabulate, at}
-use Rattle.code_theory.specs.Index.{bit}
+use Rattle.code_theory.specs.Index.{bit, nthClear}
 use Rattle.code_theory.specs.Modular.{subMod, differ}
 use Rattle.code_theory.specs.Code.{linear, symbolAt, codeword}
 use Rattle.code_theory.specs.Near.{distance, Near, leeDistance}
 use Rattle.code_theory.proofs.SumLaws.{sum-ext, sum-le, sum-bound, sum-first, tabulate-length, tabulate-at, tabulate-is}
-use Rattle.code_theory.proofs.IndexLaws.{bit-zero, bit-suc, bit-low}
+use Rattle.code_theory.proofs.IndexLaws.{bit-zero, bit-suc, bit-low, skip, nth-zero, nth-low, nth-half}
 use Rattle.code_theory.proofs.ModularLaws.{differ-le, differ-le-lee}
 
 -- the coefficient of bit 0, and those of the bits above
@@ -52,6 +52,19 @@ linear-low m (suc n) c i h l = go (eq-or-lt-of-le h) (linear-low m n c i)
 -- coefficient m adds itself to the 2 ^ m indices after them
 pub linear-high : (m : ℕ) (c : ℕ → ℕ) (i : ℕ) → i < 2 ^ m → linear (suc m) c (i + 2 ^ m) ≡ linear m c i + c m
 linear-high m c i l = linear-partner m (suc m) (omega arith) c i (bit-low m i l) ∙ ap (λ x. x + c m) (linear-low m (suc m) c i (omega arith) l)
+
+-- at the j-th index with bit k clear the other coefficients add what they add at j
+pub linear-skip : (k m : ℕ) → k ≤ m → (c : ℕ → ℕ) (j : ℕ) → linear (suc m) c (nthClear k j) ≡ linear m (λ l. c (skip k l)) j
+unfolding skip
+linear-skip zero m h c j =
+    let e : 2 * j % 2 ≡ 0 = omega arith in
+    let f : 2 * j / 2 ≡ j = omega arith in
+    rw (nth-zero j, linear-first m c (2 * j), e, f) (omega arith)
+linear-skip (suc k) zero h c j = absurd (not-suc-le-zero h)
+linear-skip (suc k) (suc m) h c j =
+    let above : ℕ → ℕ = λ l. c (suc l) in
+    let ih : linear (suc m) above (nthClear k (j / 2)) ≡ linear m (λ l. above (skip k l)) (j / 2) = linear-skip k m (omega arith) above (j / 2) in
+    rw (linear-first (suc m) c (nthClear (suc k) j), linear-first m (λ l. c (skip (suc k) l)) j, nth-low k j, nth-half k j, ih)
 
 pub linear-ext : (m : ℕ) (c d : ℕ → ℕ) → ((k : ℕ) → k < m → c k ≡ d k) → (i : ℕ) → linear m c i ≡ linear m d i
 unfolding linear
