@@ -1,14 +1,14 @@
 -- The value that most of some lanes have is read off the counts of their bits. Assumes nothing.
-use Prim.Native.Nat.{ℕ, zero, suc, _+_, _*_, _/_, _%_, _≤_, _<_}
-use mathlib.Core.Path.{_≡_, refl, ap, ap₂, sym, _∙_, subst}
+use Prim.Native.Nat.{ℕ, _+_, _*_, _/_, _%_, _≤_, _<_}
+use mathlib.Core.Path.{_≡_, ap, ap₂, sym, _∙_, subst}
 use native.Mathlib.Decide.{ℕ-discrete}
 use native.Mathlib.Omega.{arith}
-use native.Mathlib.Nat.{not-suc-le-zero, le-of-suc-le-suc, zero-add, div-one, mod-eq-of-lt}
+use native.Mathlib.Nat.{zero-add, div-one, mod-eq-of-lt}
 use lib.Pow.{mod-pow-add}
 use lib.Bits.{bitAnd, and-mask}
 use Rattle.code_theory.specs.Index.{bit}
 use Rattle.code_theory.specs.Modular.{same}
-use Rattle.code_theory.proofs.IndexLaws.{bit-lt}
+use Rattle.code_theory.proofs.IndexLaws.{bit-lt, by-bit}
 use Rattle.code_theory.proofs.ModularLaws.{same-eq, same-ne}
 use Rattle.swar_theory.specs.Digit.{digit}
 use Rattle.swar_majority.specs.Most.{threeOf, sevenOf, fifteenOf, Most}
@@ -70,12 +70,6 @@ most n f x h = record {
   fits = omega (arith, and-mask x 3);
   is = λ v l k. and-mask x 3 ∙ low-three x v l (h v k);
 }
-
--- a bit is 0 or 1
-by-bit : {P : Type 0} (b : ℕ) → b < 2 → (b ≡ 0 → P) → (b ≡ 1 → P) → P
-by-bit zero l f g = f refl
-by-bit (suc zero) l f g = g refl
-by-bit (suc (suc b)) l f g = absurd (not-suc-le-zero (le-of-suc-le-suc (le-of-suc-le-suc l)))
 
 -- MOST OF THREE
 pub most-three : {d a b da db x : ℕ} → Down d a da → Down d b db → Carry d da db x → Most 2 (threeOf d a b) (bitAnd x 7)
