@@ -2,15 +2,15 @@
 use Prim.Native.Nat.{ℕ, zero, suc, _+_, _^_, _≤_, _<_}
 use mathlib.Core.Path.{_≡_, refl, ap, ap₂, sym, _∙_}
 use mathlib.Core.Bool.{Bool, true, false, not, _&&_}
-use mathlib.Core.List.{List, [], _∷_, _++_}
+use mathlib.Core.List.{List, []}
 use native.Mathlib.Nat.{not-suc-le-zero}
 use native.Mathlib.Numerals.{add-one}
 use native.Mathlib.Omega.{arith}
 use borrow.Author.Count.{below-more}
 use borrow.Author.Tests.{not-true, not-false}
 use lib.Dec.{eqb}
-use lib.ListN.{length, getD, take, set, length-set, length-take}
-use lib.Seq.{take-suc, take-suc-set, take-length, getD-set-same, getD-set-other, getD-take}
+use lib.ListN.{length, take, set, length-set, length-take}
+use lib.Seq.{getD-set-same, getD-set-other, getD-take}
 use lib.Ieee.{Float}
 use Rattle.code_theory.proofs.EveryLaws.{every-no}
 use Rattle.code_theory.specs.Sum.{at, every}
@@ -131,13 +131,6 @@ module _ (m : ℕ) (re im : List Float) where
       each : (i : ℕ) → i < suc m → at (set f 0 v) i ≡ symbol (decision f32 m (sample f32 re im) i)
       each zero u = getD-set-same f 0 v 0 (omega (arith, g .size)) ∙ c
       each (suc k) u = getD-set-other f 0 (suc k) v 0 (λ z. absurd (omega (arith, z))) ∙ g .each k (omega arith)
-
--- ---- the copy
-pub copy-next : (to from : List ℕ) (i : ℕ) → i < length to → i < length from → take i to ≡ take i from → take (i + 1) (set to i (getD from i 0)) ≡ take (i + 1) from
-copy-next to from i h l e = rw add-one (take-suc-set to i (getD from i 0) h ∙ ap (λ x. x ++ (getD from i 0 ∷ [])) e ∙ sym (take-suc from i 0 l))
-
-pub copy-all : (to from : List ℕ) (i n : ℕ) → i ≡ n → length to ≡ n → take i to ≡ take i from → to ≡ take n from
-copy-all to from i n e f g = sym (take-length to) ∙ ap (λ x. take x to) (f ∙ sym e) ∙ g ∙ ap (λ x. take x from) e
 
 -- ---- the questions
 module _ (m : ℕ) (message : List ℕ) (re im : List Float) (n : ℕ) (e : n ≡ sampleRefusal m (length message) re im) where

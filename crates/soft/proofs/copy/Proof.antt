@@ -3,7 +3,7 @@ use Prim.Native.Nat.{_≤_, _-_}
 use mathlib.Core.Path.{_≡_, refl, _∙_}
 use native.Mathlib.Omega.{arith}
 use lib.ListN.{length, take, length-set}
-use Rattle.soft.proofs.ReadLaws.{copy-next, copy-all}
+use Rattle.code_theory.proofs.ListLaws.{copy-next, copy-all}
 use borrow.Author.Needs.{needs}
 use Rattle.soft.proofs.copy.Statement.{statement}
 use Rattle.soft.proofs.copy.Tie as tie
