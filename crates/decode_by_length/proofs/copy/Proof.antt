@@ -4,7 +4,7 @@ use mathlib.Core.Path.{_≡_, refl}
 use native.Mathlib.Omega.{arith}
 use lib.ListN.{length, take, length-set}
 use borrow.Author.Needs.{needs}
-use Rattle.decode_by_length.proofs.ReadLaws.{copied-next, copied-all}
+use Rattle.code_theory.proofs.ListLaws.{copy-next, copy-all}
 use Rattle.decode_by_length.proofs.copy.Statement.{statement}
 use Rattle.decode_by_length.proofs.copy.Tie as tie
 
@@ -33,7 +33,7 @@ loop-again : tie.Need-loop-again Inv-loop μ-loop
 loop-again c =
     let l = c .before .before .loop in
     let p = c .before .before .before .pre in
-    (omega arith, refl, simp length-set (l .inv .2), copied-next _ (l .message) (l .i) (omega arith) (p .0) (omega (arith, p .1)) (l .inv .3))
+    (omega arith, refl, simp length-set (l .inv .2), copy-next (l .message) _ (l .i) (omega arith) (omega (arith, p .0, p .1)) (l .inv .3))
 
 same-length : tie.Need-same-length Inv-loop μ-loop
 same-length c = c .before .loop .inv .2
@@ -41,7 +41,7 @@ same-length c = c .before .loop .inv .2
 returns : tie.Need-returns Inv-loop μ-loop
 returns c =
     let l = c .before .loop in
-    copied-all _ (l .message) (l .i) _ (omega arith) (l .inv .2) (l .inv .3)
+    copy-all (l .message) _ (l .i) _ (omega arith) (l .inv .2) (l .inv .3)
 
 pub copy-spec : {M : Type 1} → statement M
 copy-spec =
