@@ -22,7 +22,7 @@ use Rattle.code_theory.proofs.CodeLaws.{linear-low}
 use Rattle.code_theory.proofs.ModularLaws.{subMod-lt}
 use Rattle.code_theory.proofs.ErrorLaws.{error, error-distance}
 use Rattle.swar_theory.specs.Digit.{digit}
-use Rattle.swar_lanes.specs.Lane.{offset, laneOf, Lanes, Below, Held, Low}
+use Rattle.swar_lanes.specs.Lane.{offset, laneOf, Lanes, Below, Held}
 use Rattle.code_theory.specs.Word.{WellFormed}
 use Rattle.code_theory.proofs.WordLaws.{bounds}
 use Rattle.decode_short_lead.specs.Lead.{Mask}
@@ -115,9 +115,6 @@ word-below q m w r i = go (decLt i (2 ^ m))
 
 pub held-below : (q m : ℕ) (w : List ℕ) (b x : ℕ) → WellFormed q m w → Held w b x → Below q x
 held-below q m w b x r h t k = omega (arith, h t k, word-below q m w r (b + offset t))
-
-pub word-low : (q m : ℕ) (w : List ℕ) → WellFormed q m w → Low w
-word-low q m w r i l = omega (arith, word-below q m w r i, bounds q (r .alphabet))
 
 pub below-eight : (q x : ℕ) → isAlphabet q ≡ true → Below q x → Below 8 x
 below-eight q x a h t k = omega (arith, h t k, bounds q a)

@@ -11,10 +11,16 @@ use lib.Seq.{getD-set-same, getD-set-other}
 use borrow.Author.Tests.{eqb-true}
 use lib.Dec.{eqb}
 use Rattle.code_theory.specs.Sum.{at, every}
+use Rattle.code_theory.specs.Word.{WellFormed}
 use Rattle.code_theory.proofs.EveryLaws.{every-at}
+use Rattle.code_theory.proofs.WordLaws.{bounds}
 use Rattle.swar_theory.specs.Digit.{digit}
 use Rattle.swar_theory.proofs.DigitLaws.{digit-add, sub-le, digit-times, times-lt, digit-even, digit-odd}
 use Rattle.swar_lanes.specs.Lane.{offset, Low, Held, Loaded}
+
+-- every symbol of a received word fits a lane
+pub word-low : (q m : ℕ) (w : List ℕ) → WellFormed q m w → Low w
+word-low q m w r i l = omega (arith, r .symbols .below i (omega (arith, r .symbols .size, l)), bounds q (r .alphabet))
 
 -- the bytes of eight symbols that fit a lane, whichever they are
 pub low-bytes : (w : List ℕ) (place : ℕ → ℕ) (a : ℕ) → ((l : ℕ) → l < 8 → digit 8 a l ≡ at w (place l)) → Low w → ((l : ℕ) → l < 8 → place l < length w) → (l : ℕ) → l < 8 → digit 8 a l < 16

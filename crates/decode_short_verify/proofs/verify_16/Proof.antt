@@ -2,7 +2,8 @@
 use native.Mathlib.Omega.{arith}
 use mathlib.Core.Path.{refl}
 use borrow.Author.Needs.{needs}
-use Rattle.decode_short_verify.proofs.VerifyLaws.{word-low, held-below, below-eight, symbols-below, verifies-one}
+use Rattle.swar_lanes.proofs.LoadLaws.{word-low}
+use Rattle.decode_short_verify.proofs.VerifyLaws.{held-below, below-eight, symbols-below, verifies-one}
 use Rattle.decode_short_verify.proofs.verify_16.Statement.{statement}
 use Rattle.decode_short_verify.proofs.verify_16.Tie as tie
 

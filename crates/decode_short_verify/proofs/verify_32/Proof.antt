@@ -1,7 +1,8 @@
 -- `verify_32` meets its contract: the one candidate of a word of 32 places, tried on both numbers.
 use native.Mathlib.Omega.{arith}
 use borrow.Author.Needs.{needs}
-use Rattle.decode_short_verify.proofs.VerifyLaws.{word-low, held-below, below-eight, symbols-below, verifies-both}
+use Rattle.swar_lanes.proofs.LoadLaws.{word-low}
+use Rattle.decode_short_verify.proofs.VerifyLaws.{held-below, below-eight, symbols-below, verifies-both}
 use Rattle.decode_short_verify.proofs.verify_32.Statement.{statement}
 use Rattle.decode_short_verify.proofs.verify_32.Tie as tie
 

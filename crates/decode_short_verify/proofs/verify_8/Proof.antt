@@ -4,7 +4,8 @@ use mathlib.Core.Path.{refl}
 use borrow.Author.Needs.{needs}
 use Rattle.code_theory.specs.Sum.{sum, every}
 use Rattle.swar_theory.specs.Digit.{digit}
-use Rattle.decode_short_verify.proofs.VerifyLaws.{marked, right-le, word-low, held-below, below-eight, symbols-below, verifies-one, wrong-8}
+use Rattle.swar_lanes.proofs.LoadLaws.{word-low}
+use Rattle.decode_short_verify.proofs.VerifyLaws.{marked, right-le, held-below, below-eight, symbols-below, verifies-one, wrong-8}
 use Rattle.decode_short_verify.proofs.verify_8.Statement.{statement}
 use Rattle.decode_short_verify.proofs.verify_8.Tie as tie
 
