@@ -1,16 +1,16 @@
 -- The winner over the values, one after the other. Assumes nothing.
-use Prim.Native.Nat.{ℕ, zero, suc, _+_, _-_, _/_, _%_, _^_, _≤_, _<_, max}
+use Prim.Native.Nat.{ℕ, suc, _+_, _-_, _/_, _%_, _^_, _≤_, _<_, max}
 use mathlib.Core.Path.{_≡_, refl, ap, ap₂, sym, _∙_}
 use mathlib.Core.Logic.{_≢_, _⊎_, inl, inr}
-use native.Mathlib.Decide.{ℕ-discrete, decLt}
+use native.Mathlib.Decide.{decLt}
 use native.Mathlib.Numerals.{add-one}
 use native.Mathlib.Omega.{arith}
-use native.Mathlib.Nat.{zero-div, not-suc-le-zero, eq-or-lt-of-le, le-of-suc-le-suc}
+use native.Mathlib.Nat.{zero-div, eq-or-lt-of-le, le-of-suc-le-suc}
 use Rattle.code_theory.specs.Index.{ifClear}
 use Rattle.code_theory.specs.Modular.{same}
 use Rattle.code_theory.specs.Margin.{mostOther, lead}
 use Rattle.code_theory.proofs.ModularLaws.{same-eq, same-ne}
-use Rattle.code_theory.proofs.MarginLaws.{mostOther-le, mostOther-ext}
+use Rattle.code_theory.proofs.MarginLaws.{mostOther-le, le-mostOther, mostOther-ext}
 use Rattle.decode_long_tally.specs.Digits.{digit, Counts}
 use Rattle.decode_long_winner.specs.Winner.{Leads, Updates, together}
 
@@ -21,16 +21,6 @@ most-other n s f d = rw (same-ne n s d)
 most-self : (n : ℕ) (f : ℕ → ℕ) → mostOther (suc n) n f ≡ mostOther n n f
 unfolding mostOther ifClear
 most-self n f = rw (same-eq n n refl) (omega arith)
-
-le-most : (n s : ℕ) (f : ℕ → ℕ) (v : ℕ) → v < n → v ≢ s → f v ≤ mostOther n s f
-le-most zero s f v l d = absurd (not-suc-le-zero l)
-le-most (suc n) s f v l d = go (λ h. le-most n s f v h d) (eq-or-lt-of-le (le-of-suc-le-suc l)) (ℕ-discrete n s)
-  where
-    go : (v < n → f v ≤ mostOther n s f) → (v ≡ n) ⊎ (v < n) → Dec (n ≡ s) → f v ≤ mostOther (suc n) s f
-    go ih (inl e) (yes g) = absurd (d (e ∙ g))
-    go ih (inl e) (no g) = omega (arith, most-other n s f g, ap f e)
-    go ih (inr h) (no g) = omega (arith, most-other n s f g, ih h)
-    go ih (inr h) (yes g) = omega (arith, ih h, most-self n f, ap (λ x. mostOther n x f) g, ap (λ x. mostOther (suc n) x f) g)
 
 -- the first value leads alone
 pub leads-first : (f : ℕ → ℕ) (n : ℕ) → n ≡ f 0 → Leads 1 f 0 n 0
@@ -55,7 +45,7 @@ leads-next i f s n o x s′ n′ o′ w e t = rw add-one (go (decLt n x))
     go (yes l) =
         let a : s′ ≡ i = t .ahead l in
         let h : mostOther i i f ≤ n = mostOther-le i i f n (λ u m d. w .top u m) in
-        let g : o′ ≡ mostOther i i f = omega (arith, t .other, next-le i f s n o w, h, w .own, le-most i i f s (w .inside) (λ z. absurd (omega (arith, w .inside, z)))) in
+        let g : o′ ≡ mostOther i i f = omega (arith, t .other, next-le i f s n o w, h, w .own, le-mostOther i i f s (w .inside) (λ z. absurd (omega (arith, w .inside, z)))) in
         record {
           inside = omega (arith, a);
           own = omega (arith, t .most, e, ap f a);
