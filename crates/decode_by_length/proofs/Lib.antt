@@ -1,4 +1,1 @@
-pub mod FirstLaws
-pub mod ConstantLaws
-pub mod LongLaws
-pub mod ReadLaws
+pub mod LengthLaws

@@ -1,7 +1,7 @@
 -- `read` meets its contract, length by length.
 use native.Mathlib.Omega.{arith}
 use borrow.Author.Needs.{needs}
-use Rattle.decode_by_length.proofs.ReadLaws.{received-at, settled-at}
+use Rattle.decode_by_length.proofs.LengthLaws.{received-at, settled-at}
 use Rattle.decode_by_length.proofs.read.Statement.{statement}
 use Rattle.decode_by_length.proofs.read.Tie as tie
 
@@ -25,8 +25,8 @@ read-32-requires c κs =
     let s = c .before .before .before .before in
     (received-at (s .args .q) (s .args .m) 5 (omega arith) (s .args .word .now) (s .pre .0), omega (arith, s .pre .1))
 
-read-long-requires : tie.Need-read-long-requires
-read-long-requires c κs = search needs
+read-requires : tie.Need-read-requires
+read-requires c κs = search needs
 
 same-length : tie.Need-same-length
 same-length c = search needs
@@ -78,7 +78,7 @@ read-spec =
     read-8-requires
     read-16-requires
     read-32-requires
-    read-long-requires
+    read-requires
     same-length
     returns
     same-length-2

@@ -1,16 +1,16 @@
--- `winners_long` meets its contract, as `elect_short` does, with the word and its code in lanes.
+-- `winners_long` meets its contract: the winners of the coefficients, and with their word the winner of the constant.
 use mathlib.Core.Path.{refl, _∙_}
 use native.Mathlib.Omega.{arith}
 use lib.ListN.{length-set}
 use lib.Seq.{getD-set-same}
 use Rattle.code_theory.proofs.WordLaws.{bounds, word-length}
 use Rattle.decode_long_winner.proofs.WinnerLaws.{next-le}
-use Rattle.decode_by_length.proofs.FirstLaws.{first-fits, votes-le, elected}
-use Rattle.decode_by_length.proofs.ConstantLaws.{long-room, long-code, constant-leads}
-use Rattle.decode_by_length.proofs.LongLaws.{zeros-empty}
+use Rattle.decode_long.proofs.FirstLaws.{first-fits, votes-le, winning}
+use Rattle.decode_long.proofs.ConstantLaws.{long-room, long-code, constant-leads}
+use Rattle.decode_long.proofs.LongLaws.{zeros-empty}
 use borrow.Author.Needs.{needs}
-use Rattle.decode_by_length.proofs.winners_long.Statement.{statement}
-use Rattle.decode_by_length.proofs.winners_long.Tie as tie
+use Rattle.decode_long.proofs.winners_long.Statement.{statement}
+use Rattle.decode_long.proofs.winners_long.Tie as tie
 
 pairs-requires : tie.Need-pairs-requires
 pairs-requires c κs =
@@ -59,7 +59,7 @@ returns c =
     let s = c .before .before .before .before .before .before .before .before .before .before .before .before .before .before .before .before .before .before .before .before .before .before in
     let t = (c .before .before .before .before .before .before .before .before .before .before .before .before .coefficients .ensures (c .before .before .before .before .before .before .before .before .before .before .before .before .before .before .before .before .before .before .before .before .before .before .args .word .now) (c .before .before .before .before .before .before .before .before .before .before .before .before .before .before .before .long-tallies .ensures .2)) in
     let l = (constant-leads (c .before .before .before .before .before .before .before .before .before .before .before .before .before .before .before .before .before .before .before .before .before .before .args .q) (c .before .before .before .before .before .before .before .before .before .before .before .before .before .before .before .before .before .before .before .before .before .before .args .m) (c .before .before .before .before .before .before .before .before .before .before .before .before .before .before .before .before .before .before .before .before .before .before .args .word .now) _ _ (c .before .before .before .before .before .before .before .before .before .before .before .before .before .before .before .before .before .before .before .before .before .before .pre .0) ((c .before .before .before .before .before .before .before .before .before .before .before .before .coefficients .ensures (c .before .before .before .before .before .before .before .before .before .before .before .before .before .before .before .before .before .before .before .before .before .before .args .word .now) (c .before .before .before .before .before .before .before .before .before .before .before .before .before .before .before .long-tallies .ensures .2)) .zeroth) (long-room _ _ (c .before .before .before .before .before .before .before .before .before .before .before .before .before .before .before .before .before .before .before .before .before .before .pre .0 .high) (c .before .before .before .before .before .before .before .before .write .ensures .size)) (c .before .before .before .before .before .before .before .before .write .ensures .coded) _ _ _ (c .before .before .long-constant .ensures _ (c .before .before .before .before .before .before .before .before .before .before .before .before .before .before .before .long-tallies .ensures .1))) in
-    elected (s .args .q) (s .args .m) (s .args .word .now) _ (s .pre .0) _ t _ _ _ l _ _ _ (c .set-constant .ensures .0) (c .set-constant .ensures .1) (c .set-constant .ensures .2)
+    winning (s .args .q) (s .args .m) (s .args .word .now) _ (s .pre .0) _ t _ _ _ l _ _ _ (c .set-constant .ensures .0) (c .set-constant .ensures .1) (c .set-constant .ensures .2)
 
 pub winners-long-spec : {M : Type 1} → statement M
 winners-long-spec =

@@ -17,7 +17,7 @@ use Rattle.code_theory.specs.Margin.{lead, least, margin}
 use Rattle.code_theory.proofs.VoteLaws.{residues-exact, tally-ext}
 use Rattle.encode_codeword.specs.Coded.{Fits}
 use Rattle.code_theory.specs.Word.{WellFormed}
-use Rattle.decode_by_length.specs.Winning.{leastOf, leadOf, FirstWinners, Winning}
+use Rattle.decode_long.specs.Winning.{leastOf, leadOf, FirstWinners, Winning}
 use Rattle.decode_long_winner.specs.Winner.{Leads}
 use Rattle.code_theory.proofs.WordLaws.{bounds}
 use Rattle.decode_long_winner.proofs.WinnerLaws.{leads-ext, leads-lead}
@@ -81,7 +81,7 @@ first-fits q m w s c low r t e = record {
 
 -- WITH THE CONSTANT: the message s with the winner a of the constant
 module _ (q m : ℕ) (w s : List ℕ) (r : WellFormed q m w) (low : ℕ) (t : FirstWinners q m w s m low) (a n o : ℕ) (x : Leads q (residues q m (at s) (at w)) a n o) where
-  -- the message elected
+  -- the winners
   abbrev d : List ℕ
   d = set s 0 a
 
@@ -135,8 +135,8 @@ module _ (q m : ℕ) (w s : List ℕ) (r : WellFormed q m w) (low : ℕ) (t : Fi
             pow-mono {i = m} {j = 8} (r .high),
           )
 
-  pub elected : (s′ : List ℕ) (wrong′ margin′ : ℕ) → s′ ≡ set s 0 a → wrong′ ≡ length w - n → margin′ ≡ min low (n - o) → Winning q m w s′ wrong′ margin′
-  elected s′ wrong′ margin′ e f g = rw e (record {
+  pub winning : (s′ : List ℕ) (wrong′ margin′ : ℕ) → s′ ≡ set s 0 a → wrong′ ≡ length w - n → margin′ ≡ min low (n - o) → Winning q m w s′ wrong′ margin′
+  winning s′ wrong′ margin′ e f g = rw e (record {
     size = simp length-set (t .size);
     below = below;
     wins = wins;

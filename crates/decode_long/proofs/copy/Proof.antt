@@ -5,8 +5,8 @@ use native.Mathlib.Omega.{arith}
 use lib.ListN.{length, take, length-set}
 use borrow.Author.Needs.{needs}
 use Rattle.code_theory.proofs.ListLaws.{copy-next, copy-all}
-use Rattle.decode_by_length.proofs.copy.Statement.{statement}
-use Rattle.decode_by_length.proofs.copy.Tie as tie
+use Rattle.decode_long.proofs.copy.Statement.{statement}
+use Rattle.decode_long.proofs.copy.Tie as tie
 
 abbrev Inv-loop : tie.InvT-loop
 Inv-loop found message₀ i₀ i-end message i = (i ≤ i-end) × (i-end ≡ length message₀) × (length message ≡ length message₀) × (take i message ≡ take i found)

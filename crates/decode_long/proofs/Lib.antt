@@ -1,0 +1,4 @@
+pub mod FirstLaws
+pub mod ConstantLaws
+pub mod LongLaws
+pub mod ReadLaws
