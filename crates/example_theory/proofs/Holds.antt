@@ -16,8 +16,8 @@ use Rattle.session_receiver.specs.Receiving.{isBelow, isMissing, soundReceiver,
 use Rattle.strap.specs.Strap.{digit, strapMessage, isZone, packRefusal, packAnswer, packMessage}
 use Rattle.soft_theory.specs.Decision.{magnitude, isClear, decideBy, decide}
 use Rattle.example_theory.specs.Case.{votesInOrder, Holds, AllHold}
-use Rattle.example_theory.specs.Lake.{lake}
+use Rattle.example_theory.specs.Examples.{examples}
 
-pub lake-holds : AllHold lake
+pub examples-hold : AllHold examples
 unfolding sum tabulate bit ifClear subMod same differ linear symbolAt codeword distance count vote votes residue residues tally mostOther lead least margin prefixed messages firstOr find isFound orEmpty isNear nearest isReadable nearMessage nearDistance nearMargin ask isAlphabet isVariables isMessageSize isWordSize allBelow answer after encodeRefusal encodeAnswer encodeWord decodeRefusal decodeAnswer decodeMessage slotTime soundSender sendRefusal sendAnswer sendConstant sendSession isBelow isMissing soundReceiver receiveRefusal missRefusal receiveConstant zoneFrom receiveDelivery zoneValues deliveryValues receiveAnswer nextReceiver afterReceive receiveSession missAnswer missSession digit strapMessage isZone packRefusal packAnswer packMessage magnitude isClear decideBy decide votesInOrder Holds AllHold
-lake-holds = ((refl, refl), ((refl, refl), (refl, ((refl, refl), ((refl, refl), (((refl, refl), (refl, refl)), ((refl, refl), ((refl, refl), ((refl, refl), ((refl, refl), ((refl, (refl, refl)), ((((refl, refl), (refl, refl)), (((refl, refl), (refl, refl)), ((refl, refl), (refl, refl)))), tt))))))))))))
+examples-hold = ((refl, refl), ((refl, refl), (refl, ((refl, refl), ((refl, refl), (((refl, refl), (refl, refl)), ((refl, refl), ((refl, refl), ((refl, refl), ((refl, refl), ((refl, (refl, refl)), ((((refl, refl), (refl, refl)), (((refl, refl), (refl, refl)), ((refl, refl), (refl, refl)))), tt))))))))))))

@@ -8,7 +8,7 @@ mod calls;
 mod cases;
 mod check;
 mod codec;
-mod lake;
+mod examples;
 mod lister;
 mod listings;
 mod model;
@@ -57,7 +57,7 @@ fn main() -> ExitCode {
 fn words(report: &mut Report, random: &mut Random, model: &Model) {
     let mut codec = Codec::new(model);
     println!("compare: the document's examples");
-    lake::run(&mut codec, report);
+    examples::run(&mut codec, report);
     println!("compare: every message of the codes with at most {}", model::FEW_MESSAGES);
     codec.every_message(report);
     println!("compare: every word of the small codes");

@@ -1,4 +1,4 @@
--- The twelve lines of "Words from the lake" that are marked P, in their order.
+-- The twelve worked examples of document 01 ("Words from the lake") that are marked P, as they follow each other there.
 use Prim.Native.Nat.{ℕ}
 use mathlib.Core.List.{List, [], _∷_}
 use lib.IntN.{ℤ, pos, negsuc}
@@ -9,7 +9,7 @@ use Rattle.session_reference.specs.declared.Reference.{Reference}
 use Rattle.session_reference.specs.declared.Reference.the-variants.{Held, Missing}
 use Rattle.soft_theory.specs.Complex.{Complex}
 use Rattle.soft_theory.specs.Decision.{sure, unsure}
-use Rattle.example_theory.specs.Case.{Case, writes, reads, doubtful, casts, packs, decides, sends, receives, misses, both}
+use Rattle.example_theory.specs.Case.{Case, writes, reads, doubtful, gathers, packs, decides, sends, receives, misses, both}
 
 -- the message of examples 1 and 3 of source document 001, its word, and the word received
 abbrev pub message : List ℕ
@@ -31,11 +31,11 @@ receiver reference used = record { q = 4; m = 4; reference = reference; used = u
 abbrev pub sums : ℤ → ℤ → Complex ℤ
 sums re im = record { re = re; im = im }
 
-abbrev pub lake : List Case
-lake =
+abbrev pub examples : List Case
+examples =
     writes 4 4 message word
     ∷ reads 4 4 received message 2 5
-    ∷ casts 4 4 3 received (2 ∷ 2 ∷ 1 ∷ 2 ∷ 2 ∷ 2 ∷ 2 ∷ 0 ∷ [])
+    ∷ gathers 4 4 3 received (2 ∷ 2 ∷ 1 ∷ 2 ∷ 2 ∷ 2 ∷ 2 ∷ 0 ∷ [])
     ∷ writes 8 3 (7 ∷ 5 ∷ 0 ∷ 1 ∷ []) (7 ∷ 4 ∷ 7 ∷ 4 ∷ 0 ∷ 5 ∷ 0 ∷ 5 ∷ [])
     ∷ reads 8 3 (7 ∷ 4 ∷ 7 ∷ 0 ∷ 0 ∷ 5 ∷ 0 ∷ 5 ∷ []) (7 ∷ 5 ∷ 0 ∷ 1 ∷ []) 1 2
     ∷ both (doubtful 2 2 (0 ∷ 0 ∷ 0 ∷ 1 ∷ [])) (reads 2 2 (0 ∷ 1 ∷ 1 ∷ 0 ∷ []) (0 ∷ 1 ∷ 1 ∷ []) 0 2)
