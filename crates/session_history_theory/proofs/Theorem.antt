@@ -1,9 +1,9 @@
 -- DEMAND 3: the theorem about two whole lists of calls. Assumes nothing.
 use Prim.Native.Nat.{ℕ, zero, suc, _+_, _*_, _%_, _^_, _<_}
 use mathlib.Core.Path.{_≡_, refl, ap, ap₂, sym, subst, subst₂, _∙_}
-use mathlib.Core.Logic.{_≢_, _↔_}
+use mathlib.Core.Logic.{_↔_}
 use mathlib.Core.Bool.{true, false}
-use mathlib.Core.List.{List, [], _∷_, _++_}
+use mathlib.Core.List.{List, [], _∷_}
 use mathlib.Core.Option.{Option, none, some, Option·some-injective, Option·none-ne-some}
 use native.Mathlib.Nat.{zero-add}
 use native.Mathlib.Omega.{arith}
@@ -23,12 +23,12 @@ use Rattle.session_receiver.specs.declared.Receiver.{Receiver}
 use Rattle.session_receiver.specs.declared.Delivery.{Delivery}
 use Rattle.session_reference.specs.declared.Reference.{Reference}
 use Rattle.session_reference.specs.declared.Reference.the-variants.{Missing}
-use Rattle.session_reference.specs.declared.Zone.{Zone}
 use Rattle.session_reference.specs.declared.Zone.the-variants.{Known, Unknown}
 use Rattle.session_slot.specs.Slot.{slots, slotTime}
 use Rattle.session_sender.specs.Sending.{openSender, sendRefusal, sendConstant}
-use Rattle.session_receiver.specs.Receiving.{openReceiver, isBelow, isMissing, receiveRefusal, missRefusal, receiveConstant, zoneFrom, zoneSymbol, receiveDelivery, zoneValues, deliveryValues, nextReceiver}
+use Rattle.session_receiver.specs.Receiving.{openReceiver, isBelow, isMissing, receiveRefusal, missRefusal, receiveConstant, zoneFrom, zoneSymbol, receiveDelivery, deliveryValues, nextReceiver}
 use Rattle.code_theory.proofs.QuestionLaws.{alphabet-positive}
+use Rattle.session_receiver.proofs.DeliveryLaws.{delivery-told}
 use Rattle.session_receiver.proofs.SoundLaws.{receiver-opened, receiver-sound}
 use Rattle.session_sender.proofs.SoundLaws.{sender-opened, sender-sound}
 use Rattle.session_history_theory.specs.Calls.{Send, SenderSlot, senderCall, senderSlot, senderSlots, senderAfter, ReceiverCall, ReceiverSlot, read, doubtful, missed, receiverCall, receiverSlot, receiverSlots, receiverAfter}
@@ -57,19 +57,6 @@ pub record ReadFrom (q m : ℕ) (reference : Reference) (used : ℕ) (y buffer :
   pub zone : delivery .zone ≡ zoneFrom q reference (receiveConstant q m y)
   pub wrong : delivery .wrong ≡ nearDistance q m y
   pub time : delivery .time ≡ slotTime used
-
--- the values answered tell the delivery
-parts-told : (z z′ : Zone) (w g t w′ g′ t′ : ℕ) → zoneValues z ++ (w ∷ g ∷ t ∷ []) ≡ zoneValues z′ ++ (w′ ∷ g′ ∷ t′ ∷ [])
-    → _≡_ {A = Delivery} (record { zone = z; wrong = w; margin = g; time = t }) (record { zone = z′; wrong = w′; margin = g′; time = t′ })
-unfolding zoneValues
-parts-told (Known d) (Known d′) w g t w′ g′ t′ e = cc
-parts-told (Known d) Unknown w g t w′ g′ t′ e = cc
-parts-told Unknown (Known d′) w g t w′ g′ t′ e = cc
-parts-told Unknown Unknown w g t w′ g′ t′ e = cc
-
-delivery-told : (d e : Delivery) → deliveryValues d ≡ deliveryValues e → d ≡ e
-unfolding deliveryValues
-delivery-told d e h = parts-told (d .zone) (e .zone) (d .wrong) (d .margin) (d .time) (e .wrong) (e .margin) (e .time) h
 
 read-from : (q m n : ℕ) (s : Receiver) (word message : List ℕ) (delivery : Delivery) → ReceiverAt q m n s → Heard s (read word message (deliveryValues delivery))
     → ReadFrom q m (s .reference) n word message delivery
