@@ -1,21 +1,21 @@
 -- What the answers of Receive and Miss tell of a slot. Assumes nothing.
-use Prim.Native.Nat.{ℕ, zero, suc, _+_, _%_, _≤_, _<_}
-use mathlib.Core.Path.{_≡_, refl, ap, sym, subst, _∙_}
+use Prim.Native.Nat.{ℕ, suc, _+_, _<_}
+use mathlib.Core.Path.{_≡_, refl, ap, ap₂, sym, subst, _∙_}
 use mathlib.Core.Logic.{_≢_}
 use mathlib.Core.Bool.{Bool, true, false, cond}
-use mathlib.Core.List.{List, [], _∷_, _++_}
+use mathlib.Core.List.{List}
 use native.Mathlib.Nat.{mod-lt}
 use native.Mathlib.Omega.{arith}
 use borrow.Author.Tests.{eq-eqb, ne-eqb}
 use lib.Dec.{eqb}
-use lib.ListN.{length, set, length-set}
-use lib.Seq.{getD-set-same, getD-set-other}
+use lib.ListN.{length}
 use Rattle.code_theory.specs.Sum.{at}
 use Rattle.code_theory.specs.Code.{Symbols}
 use Rattle.code_theory.specs.Modular.{subMod}
 use Rattle.code_theory.specs.Nearest.{isReadable, nearMessage}
 use Rattle.code_theory.specs.Question.{ask, isMessageSize, allBelow, Answer, accepted, refused, answer, after}
 use Rattle.code_theory.proofs.NearestLaws.{read-symbols}
+use Rattle.code_theory.proofs.TurnLaws.{constant-set}
 use Rattle.code_theory.proofs.QuestionLaws.{message-yes, below-all, after-yes, after-no, answer-accepted, answer-refused}
 use Rattle.strap.specs.Strap.{rateOf, unpackRefusal, unpackAnswer, unpacked}
 use Rattle.strap.specs.declared.Report.{Report}
@@ -23,11 +23,9 @@ use Rattle.strap.specs.declared.Unpacked.{Unpacked}
 use Rattle.strap.specs.declared.Unpacked.the-variants as U
 use Rattle.text_buffer.specs.Text.{put}
 use Rattle.text_buffer.proofs.PutLaws.{Written, written-as}
-use Rattle.session_receiver.specs.Receiving.{receiveRefusal, receiveConstant, zoneFrom, zoneSymbol, zoneValues, receiveDelivery, deliveryValues, receiveAnswer, receiveMessage, receiveSession, afterReceive, nextReceiver, received, receivedSession, missRefusal, missAnswer, missSession, missed, missedSession}
+use Rattle.session_receiver.specs.Receiving.{receiveRefusal, receiveConstant, zoneFrom, zoneSymbol, receiveDelivery, deliveryValues, receiveAnswer, receiveMessage, receiveSession, afterReceive, nextReceiver, received, receivedSession, missRefusal, missAnswer, missSession, missed, missedSession}
 use Rattle.session_reference.specs.declared.Reference.{Reference}
 use Rattle.session_reference.specs.declared.Reference.the-variants.{Held, Missing}
-use Rattle.session_reference.specs.declared.Zone.{Zone}
-use Rattle.session_reference.specs.declared.Zone.the-variants.{Known, Unknown}
 use Rattle.session_receiver.specs.declared.Delivery.{Delivery}
 use Rattle.session_receiver.specs.declared.Receiver.{Receiver}
 use Rattle.session_receiver.specs.declared.Received.{Received}
@@ -37,6 +35,7 @@ use Rattle.session_receiver.specs.declared.Missed.the-variants as M
 use Rattle.session_slot.specs.Slot.{slots, slotTime}
 use Rattle.text_lines.specs.Line.{Line, slot, miss, bad}
 use Rattle.list_line.specs.Listing.{readingText, doubtfulText, missedText, overText, badText, blank, deliveryText, lineText, lineSession, lineEnds}
+use Rattle.session_receiver.proofs.DeliveryLaws.{delivery-told}
 use Rattle.session_receiver.proofs.SoundLaws.{ReceiveYes, receive-yes, receive-doubtful, miss-yes}
 
 -- what Receive changes, by the number
@@ -52,18 +51,6 @@ pub after-refused : {A : Type 0} (n : ℕ) (x y z : A) → n ≢ 0 → n ≢ 9 �
 unfolding afterReceive
 after-refused n x y z d f = rw (ne-eqb n 9 f) (after-no n x z d)
 
--- deliveries with the same values are the same
-same-values : (z y : Zone) (a b c k l m : ℕ) → zoneValues z ++ (a ∷ b ∷ c ∷ []) ≡ zoneValues y ++ (k ∷ l ∷ m ∷ []) → (z ≡ y) × (a ≡ k) × (b ≡ l) × (c ≡ m)
-unfolding zoneValues
-same-values (Known d) (Known e) a b c k l m h = (cc, cc, cc, cc)
-same-values (Known d) Unknown a b c k l m h = absurd (omega (arith, ap length h))
-same-values Unknown (Known e) a b c k l m h = absurd (omega (arith, ap length h))
-same-values Unknown Unknown a b c k l m h = (cc, cc, cc, cc)
-
-same-reading : (ms rate : ℕ) (z : Zone) (wrong margin ms′ rate′ : ℕ) (z′ : Zone) (wrong′ margin′ : ℕ) → ms ≡ ms′ → rate ≡ rate′ → z ≡ z′ → wrong ≡ wrong′ → margin ≡ margin′
-    → readingText ms rate z wrong margin ≡ readingText ms′ rate′ z′ wrong′ margin′
-same-reading ms rate z wrong margin ms′ rate′ z′ wrong′ margin′ a b c d e = cc
-
 -- the message that Receive leaves can be unpacked
 zone-below : (q : ℕ) (reference : Reference) (constant : ℕ) → 0 < q → zoneSymbol (zoneFrom q reference constant) < q
 unfolding zoneFrom zoneSymbol subMod
@@ -76,19 +63,12 @@ symbols-unpack q m t d e y =
     let size : length t ≡ 5 = omega (arith, y .size) in
     rw (message-yes 4 t size, below-all 4 t (λ i l. omega (arith, y .below i (omega arith))))
 
-first-set : (q l : ℕ) (t : List ℕ) (x : ℕ) → 0 < l → Symbols q l t → x < q → Symbols q l (set t 0 x)
-first-set q l t x p y h = record { size = length-set t 0 x ∙ y .size; below = by }
-  where
-    by : (i : ℕ) → i < l → at (set t 0 x) i < q
-    by zero b = subst (λ k. k < q) (sym (getD-set-same t 0 x 0 (omega (arith, y .size)))) h
-    by (suc i) b = subst (λ k. k < q) (sym (getD-set-other t 0 (suc i) x 0 (λ e. omega (arith, e)))) (y .below (suc i) b)
-
 pub unpacks : (s : Receiver) (m w : List ℕ) → s .q ≡ 4 → s .m ≡ 4 → receiveRefusal s m w ≡ 0 → unpackRefusal (receiveMessage s m w) ≡ 0
 unfolding receiveMessage receiveDelivery
 unpacks s m w q o n =
     let y = read-symbols (s .q) (s .m) w (receive-yes s m w n .1) in
     let z = zone-below (s .q) (s .reference) (receiveConstant (s .q) (s .m) w) (omega arith) in
-    let f = first-set (s .q) (suc (s .m)) (nearMessage (s .q) (s .m) w) _ (omega arith) y z in
+    let f = constant-set (s .q) (s .m) _ (nearMessage (s .q) (s .m) w) z y in
     ap unpackRefusal (after-yes (receiveRefusal s m w) _ m n)
     ∙ symbols-unpack (s .q) (s .m) _ q o f
 
@@ -114,17 +94,15 @@ module _ (s : Receiver) (m w : List ℕ) (x : Received) (e : m ≡ blank) (answe
 
     pub told-read : (buffer : List ℕ) (rate : ℕ) → buffer ≡ receiveMessage s m w → rate ≡ rateOf buffer
         → Told s (slot w) next false (readingText (d .time) rate (d .zone) (d .wrong) (d .margin))
-    unfolding receivedSession deliveryValues lineSession lineEnds lineText deliveryText
+    unfolding receivedSession lineSession lineEnds lineText deliveryText
     told-read buffer rate b r =
         let n = on-blank 0 read-number in
-        let f = receiveDelivery s w in
-        let (zone, wrong, margin, time) = same-values (d .zone) (f .zone) (d .wrong) (d .margin) (d .time) (f .wrong) (f .margin) (f .time) (read-told .1) in
+        let same : d ≡ receiveDelivery s w = delivery-told d (receiveDelivery s w) (read-told .1) in
         record {
           session = ap (receivedSession s) (sym c) ∙ leaves ∙ ap (λ l. receiveSession s l w) e;
           over = sym (after-read (receiveRefusal s blank w) false false true n);
           printed =
-              same-reading (d .time) rate (d .zone) (d .wrong) (d .margin) (f .time) (rateOf (receiveMessage s blank w)) (f .zone) (f .wrong) (f .margin) time
-              (r ∙ ap rateOf (b ∙ ap (λ l. receiveMessage s l w) e)) zone wrong margin
+              ap₂ (λ f k. readingText (f .time) k (f .zone) (f .wrong) (f .margin)) same (r ∙ ap rateOf (b ∙ ap (λ l. receiveMessage s l w) e))
               ∙ sym (after-read (receiveRefusal s blank w) _ _ _ n);
         }
 
