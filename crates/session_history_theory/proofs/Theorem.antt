@@ -32,7 +32,7 @@ use Rattle.session_receiver.proofs.DeliveryLaws.{delivery-told}
 use Rattle.session_receiver.proofs.SoundLaws.{receiver-opened, receiver-sound}
 use Rattle.session_sender.proofs.SoundLaws.{sender-opened, sender-sound}
 use Rattle.session_history_theory.specs.Calls.{Send, SenderSlot, senderCall, senderSlot, senderSlots, senderAfter, ReceiverCall, ReceiverSlot, read, doubtful, missed, receiverCall, receiverSlot, receiverSlots, receiverAfter}
-use Rattle.session_history_theory.specs.Whole.{wordOf, Such, Accepted, Unmeasured, first, afterMissed, afterDoubtful, WholeSessions}
+use Rattle.session_history_theory.specs.Whole.{wordOf, Such, Accepted, Unmeasured, first, afterMissed, afterDoubtful, AnswersDeliveries, ZonesAfterRead, WholeSessions}
 use Rattle.session_history_theory.proofs.Run.{before, before-next, Chain, chain, chain-made, chain-before, chain-end}
 use Rattle.session_history_theory.proofs.SenderRun.{nextSender, SentBy, sender-step, SenderAt, sender-keep}
 use Rattle.session_history_theory.proofs.ReceiverRun.{referenceAfter, nextSlot, Heard, ReceivedBy, receiver-step, ReceiverAt, receiver-keep}
@@ -175,7 +175,7 @@ module _ (q m : ℕ) (alphabet : isAlphabet q ≡ true) (variables : isVariables
   launch-heard j z e = chain-made receiverCall receiverSlot nextSlot ReceivedBy (listening q m) launch _ launch-chain j z e .heard
 
   -- what a slot read answered is what the session before it delivers
-  launch-answer : (j : ℕ) (y message values : List ℕ) → getElem? launch j ≡ some (read y message values) → (delivery : Delivery) × Accepted launch j y message delivery
+  launch-answer : AnswersDeliveries launch
   launch-answer j y message values e = (receiveDelivery (receiverBefore j) y, e ∙ ap (λ v. some (read y message v)) (launch-heard j _ e .2))
 
   launch-read : (j : ℕ) (y message : List ℕ) (delivery : Delivery) → Accepted launch j y message delivery
@@ -196,9 +196,7 @@ module _ (q m : ℕ) (alphabet : isAlphabet q ≡ true) (variables : isVariables
       → (reference : Reference) → receiverBefore j .reference ≡ reference → delivery .zone ≡ zoneFrom q reference (receiveConstant q m y)
   launch-zone j y message delivery e reference h = launch-read j y message delivery e .zone ∙ ap (λ r. zoneFrom q r (receiveConstant q m y)) h
 
-  zone-after : (i : ℕ) (y message : List ℕ) (delivery : Delivery) → Accepted launch i y message delivery
-      → (y′ message′ : List ℕ) (delivery′ : Delivery) → Accepted launch (suc i) y′ message′ delivery′
-      → delivery′ .zone ≡ Known (subMod q (receiveConstant q m y′) (receiveConstant q m y))
+  zone-after : ZonesAfterRead q m launch
   unfolding referenceAfter zoneFrom
   zone-after i y message delivery e y′ message′ delivery′ e′ = launch-zone (suc i) y′ message′ delivery′ e′ _ (launch-reference i _ e)
 

@@ -45,6 +45,18 @@ pub data Unmeasured (launch : List ReceiverSlot) : ℕ → Type 0 where
   afterMissed : (i : ℕ) → getElem? launch i ≡ some missed → Unmeasured launch (suc i)
   afterDoubtful : (i : ℕ) (word : List ℕ) → getElem? launch i ≡ some (doubtful word) → Unmeasured launch (suc i)
 
+-- Whatever a slot read answered are the values of a delivery.
+abbrev pub AnswersDeliveries : List ReceiverSlot → Type 0
+AnswersDeliveries launch =
+    (j : ℕ) (y message values : List ℕ) → getElem? launch j ≡ some (read y message values) → (delivery : Delivery) × Accepted launch j y message delivery
+
+-- The zone of a slot read after a slot read is its word's constant minus the one before, which became the reference.
+abbrev pub ZonesAfterRead : ℕ → ℕ → List ReceiverSlot → Type 0
+ZonesAfterRead q m launch =
+    (i : ℕ) (y message : List ℕ) (delivery : Delivery) → Accepted launch i y message delivery
+    → (y′ message′ : List ℕ) (delivery′ : Delivery) → Accepted launch (suc i) y′ message′ delivery′
+    → delivery′ .zone ≡ Known (subMod q (receiveConstant q m y′) (receiveConstant q m y))
+
 -- The slots of the strap and of the launch, under the turn t, and the sessions that the two lists end in.
 pub record WholeSessions (q m t : ℕ) (strap : List SenderSlot) (launch : List ReceiverSlot) (sender : Sender) (receiver : Receiver) : Type 0 where
   -- "Such a receive is accepted,
@@ -62,16 +74,14 @@ pub record WholeSessions (q m t : ℕ) (strap : List SenderSlot) (launch : List 
   -- "An accepted receive says there is no zone exactly where j is 0 or slot j − 1 was missed or doubtful;
   pub noZone : (j : ℕ) (y message : List ℕ) (delivery : Delivery) → Accepted launch j y message delivery → (delivery .zone ≡ Unknown) ↔ Unmeasured launch j
   -- after a slot read in spite of heavier damage, the zone is the one that Receiving gives."
-  -- After every slot read: the word's constant minus the one before, which became the reference.
-  pub zone : (i : ℕ) (y message : List ℕ) (delivery : Delivery) → Accepted launch i y message delivery
-      → (y′ message′ : List ℕ) (delivery′ : Delivery) → Accepted launch (suc i) y′ message′ delivery′
-      → delivery′ .zone ≡ Known (subMod q (receiveConstant q m y′) (receiveConstant q m y))
+  -- After every slot read, however damaged:
+  pub zone : ZonesAfterRead q m launch
   -- Receiving: the zone stands in place 0 of the message buffer, and 0 where there is none.
   pub zonePlace : (j : ℕ) (y message : List ℕ) (delivery : Delivery) → Accepted launch j y message delivery → at message 0 ≡ zoneSymbol (delivery .zone)
   -- Receiving: "The answer carries .. time, slot number × 1,024 in ms. A call's slot number is the count of slots used before it."
   pub time : (j : ℕ) (y message : List ℕ) (delivery : Delivery) → Accepted launch j y message delivery → delivery .time ≡ slotTime j
-  -- Whatever a slot read answered are the values of a delivery, so the sentences above speak of every accepted receive.
-  pub answers : (j : ℕ) (y message values : List ℕ) → getElem? launch j ≡ some (read y message values) → (delivery : Delivery) × Accepted launch j y message delivery
+  -- Every slot read answered a delivery, so the sentences above speak of every accepted receive.
+  pub answers : AnswersDeliveries launch
   -- "Last, no n symbols below q differ in fewer than n/4 places from each of two words whose messages have different coefficients,
   -- each turned by any number of its own."
   pub apart : (a b : List ℕ) → Symbols q (suc m) a → Symbols q (suc m) b → (k : ℕ) → k < m → at a (suc k) ≢ at b (suc k)
