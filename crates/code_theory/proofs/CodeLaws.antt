@@ -1,16 +1,15 @@
 -- Laws of the word of a message and of the distance. Assumes nothing.
-use Prim.Native.Nat.{ℕ, zero, suc, _+_, _*_, _-_, _/_, _%_, _^_, _≤_, _<_, min}
-use mathlib.Core.Path.{_≡_, refl, ap, ap₂, sym, _∙_}
+use Prim.Native.Nat.{ℕ, zero, suc, _+_, _*_, _/_, _%_, _^_, _≤_, _<_}
+use mathlib.Core.Path.{_≡_, ap, ap₂, sym, _∙_}
 use mathlib.Core.Logic.{_⊎_, inl, inr}
 use mathlib.Core.List.{List}
 use native.Mathlib.Nat.{mod-lt, not-suc-le-zero, eq-or-lt-of-le, le-of-suc-le-suc}
-use native.Mathlib.Numerals.{add-one}
 use native.Mathlib.Omega.{arith}
 use lib.ListN.{length}
 use lib.Pow.{pow-mono}
-use Rattle.code_theory.specs.Sum.{sum, tabulate, at}
+use Rattle.code_theory.specs.Sum.{sum, at}
 use Rattle.code_theory.specs.Index.{bit, nthClear}
-use Rattle.code_theory.specs.Modular.{subMod, differ}
+use Rattle.code_theory.specs.Modular.{differ}
 use Rattle.code_theory.specs.Code.{linear, symbolAt, codeword}
 use Rattle.code_theory.specs.Near.{distance, Near, leeDistance}
 use Rattle.code_theory.proofs.SumLaws.{sum-ext, sum-le, sum-bound, sum-first, tabulate-length, tabulate-at, tabulate-is}

@@ -1,5 +1,5 @@
 -- The lead and the margin by the errors of a word: what it differs by from the word of a message. Assumes nothing.
-use Prim.Native.Nat.{ℕ, zero, suc, _+_, _*_, _-_, _/_, _%_, _^_, _≤_, _<_, min, max}
+use Prim.Native.Nat.{ℕ, zero, suc, _+_, _*_, _-_, _/_, _%_, _^_, _≤_, _<_, max}
 use mathlib.Core.Path.{_≡_, refl, ap, ap₂, sym, _∙_}
 use mathlib.Core.Logic.{_≢_, _⊎_, inl, inr}
 use native.Mathlib.Nat.{mod-lt, mod-eq-of-lt, mod-add-mod, add-mod, zero-add, not-suc-le-zero, eq-or-lt-of-le, le-of-suc-le-suc, le-antisymm}
@@ -11,7 +11,7 @@ use Rattle.code_theory.specs.Modular.{subMod, same, differ}
 use Rattle.code_theory.specs.Code.{linear, symbolAt}
 use Rattle.code_theory.specs.Near.{distance, Near}
 use Rattle.code_theory.specs.Vote.{count, vote, votes, residues, tally}
-use Rattle.code_theory.specs.Margin.{mostOther, lead, least, margin}
+use Rattle.code_theory.specs.Margin.{mostOther, lead, margin}
 use Rattle.code_theory.proofs.SumLaws.{sum-ext, sum-le, sum-add, sum-const}
 use Rattle.code_theory.proofs.IndexLaws.{pairing, half-clear}
 use Rattle.code_theory.proofs.ModularLaws.{subMod-lt, subMod-mod, subMod-add, add-subMod, subMod-is, add-cancel, same-eq, same-ne, same-le, differ-eq, differ-ne}

@@ -1,6 +1,6 @@
 -- Laws of differences modulo q, for every q from 1 on, and of the tests as numbers. Assumes nothing.
 use Prim.Native.Nat.{ℕ, suc, _+_, _*_, _-_, _/_, _%_, _≤_, _<_, min}
-use mathlib.Core.Path.{_≡_, refl, ap, ap₂, sym, _∙_}
+use mathlib.Core.Path.{_≡_, ap, sym, _∙_}
 use mathlib.Core.Logic.{_≢_}
 use mathlib.Core.Bool.{cond}
 use native.Mathlib.Nat.{mod-add-mod, add-mul-mod-self-left, mod-lt, mod-eq-of-lt, mod-add-div, mod-mod, zero-add}

@@ -13,7 +13,7 @@ use lib.Bits.{bitAnd, and-mask}
 use borrow.Author.Tests.{eqb-true, leb-true, ltb-true, lt-ltb, eq-eqb, ne-eqb}
 use Rattle.code_theory.specs.Sum.{at}
 use Rattle.code_theory.specs.Code.{Symbols}
-use Rattle.code_theory.specs.Question.{ask, isAlphabet, isVariables, isMessageSize, isWordSize, allBelow, Answer, accepted, refused, answer, after}
+use Rattle.code_theory.specs.Question.{ask, isAlphabet, isVariables, isMessageSize, isWordSize, allBelow, accepted, refused, answer, after}
 
 pub and-true : (a b : Bool) → a && b ≡ true → (a ≡ true) × (b ≡ true)
 and-true true b e = (refl, e)
