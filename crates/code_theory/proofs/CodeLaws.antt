@@ -21,7 +21,7 @@ pub linear-first : (m : ℕ) (c : ℕ → ℕ) (i : ℕ) → linear (suc m) c i 
 unfolding linear
 linear-first m c i = sum-first m (λ k. c k * bit k i) ∙ ap₂ (λ x y. c 0 * x + y) (bit-zero i) (sum-ext m _ _ (λ k l. ap (λ x. c (suc k) * x) (bit-suc k i)))
 
--- the partner takes coefficient k besides
+-- at the partner the coefficients add what they add at i, plus coefficient k
 pub linear-partner : (k m : ℕ) → k < m → (c : ℕ → ℕ) (i : ℕ) → bit k i ≡ 0 → linear m c (i + 2 ^ k) ≡ linear m c i + c k
 linear-partner k zero h c i z = absurd (not-suc-le-zero h)
 linear-partner zero (suc m) h c i z =
@@ -69,7 +69,7 @@ pub linear-ext : (m : ℕ) (c d : ℕ → ℕ) → ((k : ℕ) → k < m → c k 
 unfolding linear
 linear-ext m c d h i = sum-ext m _ _ (λ k l. ap (λ x. x * bit k i) (h k l))
 
--- a symbol hangs on the m + 1 symbols of the message alone
+-- a symbol depends only on the m + 1 symbols of the message
 pub symbolAt-ext : (q m : ℕ) (s t : ℕ → ℕ) → ((k : ℕ) → k < suc m → s k ≡ t k) → (i : ℕ) → symbolAt q m s i ≡ symbolAt q m t i
 unfolding symbolAt
 symbolAt-ext q m s t h i = cc (h 0 (omega arith), linear-ext m _ _ (λ k l. h (suc k) (omega arith)) i)

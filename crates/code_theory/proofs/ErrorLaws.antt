@@ -322,7 +322,8 @@ lead-few q m k s y hq hk hs hy few = go (some-from-1 (q - 1) (votes q m k (error
         omega (arith, l, few, bound, votes-total q m k (error q m s y) hq hk, lead-error q m k s y hq hk hs, lead-zero q m k (error q m s y) hq hk)
 
 -- MARGIN OF FEW ERRORS: with at most one it is exactly n / 2 - 2 × distance
-pub margin-few : (q m : ℕ) (s y : ℕ → ℕ) → 0 < q → 0 < m → Below q m s → ((i : ℕ) → i < 2 ^ m → y i < q) → distance q m s y ≤ 1 → margin q m s y ≡ 2 ^ m / 2 - 2 * distance q m s y
+pub margin-few : (q m : ℕ) (s y : ℕ → ℕ) → 0 < q → 0 < m → Below q m s → ((i : ℕ) → i < 2 ^ m → y i < q) → distance q m s y ≤ 1
+    → margin q m s y ≡ 2 ^ m / 2 - 2 * distance q m s y
 unfolding margin tally
 margin-few q m s y hq hm hs hy few =
     let l : 1 < suc m = omega arith in

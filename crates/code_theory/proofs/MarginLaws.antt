@@ -68,7 +68,7 @@ pub lead-ext : (q : ℕ) (v w : ℕ) (f g : ℕ → ℕ) → v ≡ w → ((u : �
 unfolding lead
 lead-ext q v w f g e h = ap₂ (λ x y. x - y) (h v ∙ ap g e) (mostOther-ext q v f g (λ u l. h u) ∙ ap (λ x. mostOther q x g) e)
 
--- the margin hangs on the m + 1 symbols of the message alone
+-- the margin depends only on the m + 1 symbols of the message
 pub margin-ext : (q m : ℕ) (s t y : ℕ → ℕ) → ((k : ℕ) → k < suc m → s k ≡ t k) → margin q m s y ≡ margin q m t y
 unfolding margin
 margin-ext q m s t y h = least-ext m _ _ (λ k l. lead-ext q (s k) (t k) (tally q m s y k) (tally q m t y k) (h k l) (tally-ext q m s t y (λ j b. h (suc j) (suc-le-suc b)) k))

@@ -30,7 +30,8 @@ unfolding find firstOr
 find-some passes [] t e = absurd (none≢some t e)
 find-some passes (x ∷ ts) t e = go (passes x) refl (find-some passes ts t) e
   where
-    go : (b : Bool) → passes x ≡ b → (find passes ts ≡ some t → (passes t ≡ true) × List·Memᴰ t ts) → firstOr b x (find passes ts) ≡ some t → (passes t ≡ true) × List·Memᴰ t (x ∷ ts)
+    go : (b : Bool) → passes x ≡ b → (find passes ts ≡ some t → (passes t ≡ true) × List·Memᴰ t ts)
+        → firstOr b x (find passes ts) ≡ some t → (passes t ≡ true) × List·Memᴰ t (x ∷ ts)
     go true p ih e = let f : t ≡ x = cc in (ap passes f ∙ p, List·Memᴰ·head f)
     go false p ih e = let (a, b) = ih e in (a, List·Memᴰ·tail b)
 
@@ -40,7 +41,8 @@ unfolding find firstOr
 find-none passes [] e t i = absurd (List·Memᴰ·not-nil i)
 find-none passes (x ∷ ts) e t i = go (passes x) refl (λ f. find-none passes ts f t) e (List·Memᴰ·cases-cons i)
   where
-    go : (b : Bool) → passes x ≡ b → (find passes ts ≡ none → List·Memᴰ t ts → passes t ≡ false) → firstOr b x (find passes ts) ≡ none → (t ≡ x) ⊎ List·Memᴰ t ts → passes t ≡ false
+    go : (b : Bool) → passes x ≡ b → (find passes ts ≡ none → List·Memᴰ t ts → passes t ≡ false)
+        → firstOr b x (find passes ts) ≡ none → (t ≡ x) ⊎ List·Memᴰ t ts → passes t ≡ false
     go true p ih e i = absurd (none≢some x (sym e))
     go false p ih e (inl f) = ap passes f ∙ p
     go false p ih e (inr i) = ih e i

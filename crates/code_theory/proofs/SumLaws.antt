@@ -50,7 +50,7 @@ unfolding sum
 sum-split a zero f = rw add-zero (omega arith)
 sum-split a (suc b) f = rw add-suc (omega (arith, sum-split a b f))
 
--- one term more, as a loop counts
+-- the sum up to n + 1, as a loop counts: the sum up to n plus one term
 pub sum-next : (n : ℕ) (f : ℕ → ℕ) → sum (n + 1) f ≡ sum n f + f n
 unfolding sum
 sum-next n f = rw add-one

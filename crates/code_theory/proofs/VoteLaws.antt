@@ -115,7 +115,7 @@ pub count-ext : (n : ℕ) (closed cast cast′ : ℕ → ℕ) → ((i : ℕ) →
 unfolding count
 count-ext n closed cast cast′ h v = sum-ext n _ _ (λ i l. ap (λ x. ifClear (closed i) (same x v)) (h i l))
 
--- the votes for a coefficient hang on the places of the word alone
+-- the votes for a coefficient depend only on the 2 ^ m places of the word
 pub votes-ext : (q m k : ℕ) (x y : ℕ → ℕ) → k < m → ((i : ℕ) → i < 2 ^ m → x i ≡ y i) → (v : ℕ) → votes q m k x v ≡ votes q m k y v
 unfolding votes count vote ifClear
 votes-ext q m k x y h e v = sum-ext (2 ^ m) _ _ (λ i l. place i l (bit k i) refl)
@@ -124,7 +124,7 @@ votes-ext q m k x y h e v = sum-ext (2 ^ m) _ _ (λ i l. place i l (bit k i) ref
     place i l zero z = ap (ifClear (bit k i)) (ap₂ (λ a b. same (subMod q a b) v) (e (i + 2 ^ k) (partner-lt k m i h l z)) (e i l))
     place i l (suc b) z = ap (λ c. ifClear c (same (subMod q (x (i + 2 ^ k)) (x i)) v)) z ∙ sym (ap (λ c. ifClear c (same (subMod q (y (i + 2 ^ k)) (y i)) v)) z)
 
--- the votes hang on the coefficients alone
+-- the votes depend only on the m coefficients
 pub tally-ext : (q m : ℕ) (s t y : ℕ → ℕ) → ((k : ℕ) → k < m → s (suc k) ≡ t (suc k)) → (k v : ℕ) → tally q m s y k v ≡ tally q m t y k v
 unfolding tally residues residue
 tally-ext q m s t y h zero v = count-ext (2 ^ m) (λ i. 0) _ _ (λ i l. ap (subMod q (y i)) (linear-ext m (λ k. s (suc k)) (λ k. t (suc k)) h i)) v

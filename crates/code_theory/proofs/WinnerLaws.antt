@@ -52,5 +52,6 @@ module _ (q m : ℕ) (hq : 0 < q) (s : ℕ → ℕ) (hs : Below q m s) (y : ℕ 
       winners-near (suc k) l = agree-coefficient k (le-of-suc-le-suc l)
 
 -- AT MOST ONE MESSAGE IS NEAR
-pub near-unique : (q m : ℕ) → 0 < q → (s : ℕ → ℕ) → Below q m s → (t : ℕ → ℕ) → Below q m t → (y : ℕ → ℕ) → Near q m s y → Near q m t y → (k : ℕ) → k < suc m → s k ≡ t k
+pub near-unique : (q m : ℕ) → 0 < q → (s : ℕ → ℕ) → Below q m s → (t : ℕ → ℕ) → Below q m t → (y : ℕ → ℕ)
+    → Near q m s y → Near q m t y → (k : ℕ) → k < suc m → s k ≡ t k
 near-unique q m hq s hs t ht y ns nt = winners-near q m hq s hs y t ht ns (near-wins q m hq t ht y nt)
