@@ -1,4 +1,4 @@
--- One place more of a doubling, and one doubling more of a word. Assumes nothing.
+-- A doubling adds one place after the other, and a word grows by one doubling after the other. Assumes nothing.
 use Prim.Native.Nat.{ℕ, suc, _+_, _*_, _-_, _%_, _^_, _≤_, _<_}
 use mathlib.Core.Path.{_≡_, refl, ap, sym, _∙_}
 use mathlib.Core.Bool.{true}
@@ -6,7 +6,7 @@ use mathlib.Core.List.{List}
 use native.Mathlib.Numerals.{add-one}
 use native.Mathlib.Decide.{decLt}
 use native.Mathlib.Omega.{arith}
-use native.Mathlib.Nat.{mod-eq-of-lt, mod-add-mod, add-assoc, add-zero, pow-succ'}
+use native.Mathlib.Nat.{mod-add-mod, add-assoc, pow-succ'}
 use lib.ListN.{length, set, length-set}
 use lib.Seq.{getD-set-same, getD-set-other}
 use lib.Pow.{pow-mono}
@@ -24,7 +24,7 @@ use Rattle.encode_codeword.specs.Coded.{Fits, Coded, Written, Small, Dou
 pub doubled-none : (q len a : ℕ) (w : List ℕ) → Doubled q len a w w 0
 doubled-none q len a w = record { size = refl; low = λ j l. refl; high = below-none _; rest = λ j l. refl }
 
--- one place more
+-- the next place
 pub doubled-next : (q len a : ℕ) (w v : List ℕ) (i x : ℕ) → i < len → 2 * len ≤ length w → Doubled q len a w v i → x ≡ (at v i + a) % q
     → Doubled q len a w (set v (i + len) x) (i + 1)
 doubled-next q len a w v i x l room d e = record {
@@ -68,7 +68,7 @@ module _ (q k : ℕ) (s w v : List ℕ) (d : Coded q k s w) (t : Doubled q (2 ^ 
       t .high i l ∙ ap (λ x. (x + at s (suc k)) % q) (d .each i l) ∙ mod-add-mod (at s 0 + linear k (λ j. at s (suc j)) i) q (at s (suc k))
       ∙ ap (λ x. x % q) (add-assoc (at s 0) _ _ ∙ ap (λ x. at s 0 + x) (sym (linear-high k (λ j. at s (suc j)) i l)))
 
-  -- a coefficient more
+  -- the next coefficient
   pub coded-next : Coded q (suc k) s v
   coded-next = record { each = λ i l. half i l (decLt i (2 ^ k)) }
     where

@@ -1,5 +1,5 @@
 -- Places of a word in the digits of one number. Assumes nothing.
-use Prim.Native.Nat.{ℕ, suc, _+_, _*_, _-_, _%_, _^_, _≤_, _<_}
+use Prim.Native.Nat.{ℕ, suc, _+_, _*_, _-_, _%_, _^_, _<_}
 use mathlib.Core.Path.{_≡_, refl, ap, sym, _∙_}
 use mathlib.Core.Bool.{true}
 use mathlib.Core.List.{List}
@@ -27,7 +27,7 @@ reduced-each q x y a h l k = digit-and 8 x y l ∙ ap (bitAnd (digit 8 x l)) (h 
 all-four : (P : ℕ → Type 0) → P 0 → P 1 → P 2 → P 3 → (l : ℕ) → l < 4 → P l
 all-four P a b c d = below-more P 3 (below-more P 2 (below-more P 1 (below-more P 0 (below-none _) a) b) c) d
 
--- the first four places, by the three symbols that they hang on
+-- the first four places, by the three symbols that they depend on
 module _ (s : ℕ → ℕ) (h : (k : ℕ) → k < 3 → s k < 8) where
   four-bound : (l : ℕ) → l < 4 → unreduced 2 s l < 32
   unfolding unreduced linear sum bit

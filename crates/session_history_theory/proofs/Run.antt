@@ -49,7 +49,7 @@ module _ {S C A : Type 0} (call : S → C → S) (slot : S → C → List A) (ne
   chain-made s (x ∷ xs) end h zero a e = subst (Made s) (Option·some-injective x a e) (h .0)
   chain-made s (x ∷ xs) end h (suc j) a e = chain-made (next s x) xs end (h .1) j a e
 
-  -- what each slot carries on holds before slot j and at the end, counted from n
+  -- what every slot keeps holds before slot j and at the end, where the slots are counted from n
   module _ (Inv : ℕ → S → Type 0) (keep : (n : ℕ) (s : S) (a : A) → Made s a → Inv n s → Inv (suc n) (next s a)) where
     pub chain-before : (n : ℕ) (s : S) (xs : List A) (end : S) → Chain s xs end → Inv n s → (j : ℕ) (a : A) → getElem? xs j ≡ some a → Inv (n + j) (before next s xs j)
     unfolding before

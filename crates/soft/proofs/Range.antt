@@ -1,6 +1,6 @@
 -- Question 10 part after part. Assumes nothing.
 use Prim.Native.Nat.{ℕ, _+_, _^_}
-use mathlib.Core.Path.{_≡_, refl, ap, ap₂, sym, _∙_}
+use mathlib.Core.Path.{_≡_, refl, ap, ap₂, _∙_}
 use mathlib.Core.Bool.{Bool, true, false, _&&_}
 use mathlib.Core.List.{List}
 use native.Mathlib.Numerals.{add-one}
@@ -28,12 +28,12 @@ range-none x = refl
 pub range-start : (x y : List Float) → true ≡ (rangeTo x 0 && rangeTo y 0)
 range-start x y = ap₂ _&&_ (range-none x) (range-none y)
 
--- one part more
+-- the next part
 next : (x : List Float) (i : ℕ) (all b : Bool) (v : Float) → all ≡ rangeTo x i → v ≡ getD x i (ofInt binary32 (pos 0)) → b ≡ inRange f32 v → (all && b) ≡ rangeTo x (i + 1)
 unfolding rangeTo every
 next x i all b v e f g = rw add-one (ap₂ _&&_ e (g ∙ ap (inRange f32) f))
 
--- one part more of both slices
+-- the next part of both slices
 pub range-next : (x y : List Float) (i : ℕ) (all b c : Bool) (v w : Float) → all ≡ (rangeTo x i && rangeTo y i)
     → v ≡ getD x i (ofInt binary32 (pos 0)) → b ≡ inRange f32 v → w ≡ getD y i (ofInt binary32 (pos 0)) → c ≡ inRange f32 w
     → ((all && b) && c) ≡ (rangeTo x (i + 1) && rangeTo y (i + 1))

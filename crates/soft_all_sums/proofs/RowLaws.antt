@@ -80,7 +80,7 @@ module _ (re im : List Float) (b : ℕ) where
   pub rows-all : (k m : ℕ) (t : List Float) → k ≡ m → Rows re im b t k → Rows re im b t m
   rows-all k m t e r = rw e at r
 
--- ---- the sums with one vote of a row more
+-- ---- the sums plus one vote of a row
 pub row-next : (re im : List Float) (k b x : ℕ) (s r z : Complex Float) → s ≡ votesTo f32 k (sample f32 re im) (8 * b + x) → z ≡ voteAt re im k (8 * b + x) → r ≡ plus f32 s z
     → r ≡ votesTo f32 k (sample f32 re im) (8 * b + (x + 1))
 row-next re im k b x s r z e Z R = vote-next re im k (8 * b + x) s r z e Z R ∙ ap (votesTo f32 k (sample f32 re im)) (omega arith)

@@ -40,7 +40,7 @@ module _ {A : Type 0} (N : Numbers A) where
       go false b true d false = omega arith
       go false b false d e = omega arith
 
-  -- the constant's sums hang on the m coefficients alone
+  -- the constant's sums depend only on the m coefficients
   pub constant-ext : (m : ℕ) (c d : ℕ → ℕ) (y : ℕ → Complex A) → ((k : ℕ) → k < m → c k ≡ d k) → constantSums N m c y ≡ constantSums N m d y
   unfolding constantSums
   constant-ext m c d y h = sums-ext N (2 ^ m) _ _ _ (λ i l. ap (λ t. turnBack N (t % 4) (y i)) (linear-ext m c d h i))

@@ -26,7 +26,7 @@ turnBack N (suc zero) z = record { re = z .im; im = N .neg (z .re) }
 turnBack N (suc (suc zero)) z = record { re = N .neg (z .re); im = N .neg (z .im) }
 turnBack N (suc (suc (suc t))) z = record { re = N .neg (z .im); im = z .re }
 
--- the two sums with one term more
+-- the two sums plus one term
 unfoldable pub plus : {A : Type 0} → Numbers A → Complex A → Complex A → Complex A
 plus N s z = record { re = N .add (s .re) (z .re); im = N .add (s .im) (z .im) }
 

@@ -1,4 +1,4 @@
--- The indices with bit k clear, their partners, and one vote more. Assumes nothing.
+-- The indices with bit k clear, their partners, and the sums plus one vote. Assumes nothing.
 use Prim.Native.Nat.{ℕ, zero, suc, _+_, _*_, _-_, _/_, _^_, _≤_, _<_}
 use mathlib.Core.Path.{_≡_, refl, ap, ap₂, sym, _∙_}
 use mathlib.Core.List.{List}
@@ -96,7 +96,7 @@ pub onward-vote : (re im : List Float) (k j i gap : ℕ) (r : Complex Float) →
     → r ≡ term f32 (sample f32 (onward re gap) (onward im gap) i) (sample f32 re im i) → r ≡ voteAt re im k j
 onward-vote re im k j i gap r e g R = vote-is re im k j i gap r _ _ e g (onward-sample re im gap i) refl R
 
--- one vote more
+-- the sums plus one vote
 pub vote-next : (re im : List Float) (k j : ℕ) (s r z : Complex Float) → s ≡ votesTo f32 k (sample f32 re im) j → z ≡ voteAt re im k j → r ≡ plus f32 s z
     → r ≡ votesTo f32 k (sample f32 re im) (j + 1)
 unfolding votesTo voteAt

@@ -23,7 +23,7 @@ pub fn part(x: &[f32], i: usize) -> f32
     x[i]
 }
 
-// The sums with one term more.
+// The sums plus one term.
 pub fn add(s: Sums, z: Sums) -> Sums
     ensures { λ r. ⌜ pair r ≡ plus f32 (pair s) (pair z) ⌝ }
 {

@@ -1,7 +1,6 @@
 -- `remainder` meets its contract: a mask with q - 1 is the remainder.
 use native.Mathlib.Omega.{arith}
 use Rattle.code_theory.proofs.QuestionLaws.{alphabet, alphabet-bounds, mask-mod}
-use borrow.Author.Needs.{needs}
 use Rattle.encode_codeword.proofs.remainder.Statement.{statement}
 use Rattle.encode_codeword.proofs.remainder.Tie as tie
 

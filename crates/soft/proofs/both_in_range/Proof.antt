@@ -1,5 +1,5 @@
 -- `both_in_range` meets its contract, by the answers for both slices.
-use mathlib.Core.Path.{ap₂, sym, _∙_}
+use mathlib.Core.Path.{ap₂}
 use mathlib.Core.Bool.{_&&_}
 use native.Mathlib.Omega.{arith}
 use borrow.Author.Needs.{needs}

@@ -1,6 +1,5 @@
 -- `few_in_range` meets its contract, by the answers for both slices.
-use Prim.Native.Nat.{_^_}
-use mathlib.Core.Path.{ap, ap₂, sym, _∙_}
+use mathlib.Core.Path.{ap₂, sym, _∙_}
 use mathlib.Core.Bool.{_&&_}
 use native.Mathlib.Omega.{arith}
 use Rattle.soft.proofs.Range.{range-span, variables-size}

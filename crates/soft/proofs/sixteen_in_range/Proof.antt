@@ -1,6 +1,5 @@
 -- `sixteen_in_range` meets its contract: eight parts, and eight more.
 use mathlib.Core.Path.{sym}
-use native.Mathlib.Omega.{arith}
 use borrow.Author.Needs.{needs}
 use Rattle.soft.proofs.Range.{range-more, range-span}
 use Rattle.soft.proofs.sixteen_in_range.Statement.{statement}

@@ -1,5 +1,5 @@
 -- `soft_vote` meets its contract, by the number that the questions give.
-use mathlib.Core.Path.{_≡_, sym, _∙_}
+use mathlib.Core.Path.{sym, _∙_}
 use native.Mathlib.Omega.{arith}
 use Rattle.soft_decision.specs.Voted.{voted}
 use Rattle.soft.proofs.Refusals.{vote-accepted, vote-refused, vote-given, four-accepted, four-given}

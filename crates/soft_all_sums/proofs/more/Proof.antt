@@ -1,4 +1,4 @@
--- `more` meets its contract: one vote more.
+-- `more` meets its contract: the sums plus one vote.
 use native.Mathlib.Omega.{arith}
 use lib.Pow.{pow-mono}
 use Rattle.soft_all_sums.specs.Work.{votesOf}

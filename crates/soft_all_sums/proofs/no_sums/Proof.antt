@@ -1,7 +1,6 @@
 -- `no_sums` meets its contract: eight zeros.
 use Rattle.soft_all_sums.specs.Work.{nones}
 use mathlib.Core.Path.{refl}
-use borrow.Author.Needs.{needs}
 use Rattle.soft_all_sums.proofs.no_sums.Statement.{statement}
 use Rattle.soft_all_sums.proofs.no_sums.Tie as tie
 
