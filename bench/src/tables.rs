@@ -38,7 +38,7 @@ impl fmt::Display for Ratio {
 }
 
 /// The best times of one call in each row, over all sweeps, and over those in the file of this name, which other builds of this
-/// program have left there: how fast code runs hangs on where the linker happens to put it, so several layouts are measured.
+/// program have left there: how fast code runs depends on where the linker happens to put it, so several layouts are measured.
 fn sweep<R, const C: usize>(name: &str, rows: &[R], passes: impl Fn(&R) -> [Pass<'_>; C]) -> Vec<Times<C>> {
     let mut best = earlier(name).unwrap_or_else(|| vec![[f64::MAX; C]; rows.len()]);
     for _ in 0..MEASUREMENTS / rows.len() {

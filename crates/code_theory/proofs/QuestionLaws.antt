@@ -119,7 +119,7 @@ pub word-no : (m : ℕ) (w : List ℕ) → (length w ≡ 2 ^ m → ⊥) → isWo
 unfolding isWordSize
 word-no m w d = ne-eqb _ _ d
 
--- what a call answers and leaves where each question has a yes, and where one has a no
+-- what a call answers and leaves where each question is answered yes, and where one is answered no
 pub answer-yes : (n : ℕ) (values : List ℕ) → n ≡ 0 → answer n values ≡ accepted values
 unfolding answer
 answer-yes n values e = rw e

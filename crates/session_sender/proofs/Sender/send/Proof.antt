@@ -8,7 +8,7 @@ use Rattle.session_sender.proofs.CallLaws.{send-refused, send-accepted,
 use Rattle.session_sender.proofs.Sender.send.Statement.{statement}
 use Rattle.session_sender.proofs.Sender.send.Tie as tie
 
--- every question has a yes
+-- every question is answered yes
 yes : (c : tie.Else1) → let s = c .before .before .before .before .before .args in SendYes (s .self) (s .message .now)
 yes c = send-yes _ _ _ (sym (c .before .refusal .ensures) ∙ c .if1 .left)
 
