@@ -37,7 +37,8 @@ doubled-next q len a w v i x l room d e = record {
 }
 
 -- eight places more, in the digits of x
-pub doubled-eight : (q len a : ℕ) (w v u : List ℕ) (i n p x : ℕ) → i + 8 ≤ len → n ≡ i + 8 → p ≡ i + len → Doubled q len a w v i → ((l : ℕ) → l < 8 → digit 8 x l ≡ (at v (i + l) + a) % q)
+pub doubled-eight : (q len a : ℕ) (w v u : List ℕ) (i n p x : ℕ) → i + 8 ≤ len → n ≡ i + 8 → p ≡ i + len → Doubled q len a w v i
+    → ((l : ℕ) → l < 8 → digit 8 x l ≡ (at v (i + l) + a) % q)
     → Put 8 x p v u → Doubled q len a w u n
 doubled-eight q len a w v u i n p x room f g d e t = record {
   size = t .size ∙ d .size;

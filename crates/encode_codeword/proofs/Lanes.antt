@@ -43,7 +43,8 @@ pub four-code : (s : List ℕ) (x y z : ℕ) → Small 3 s → x ≡ at s 0 → 
 four-code s x y z h e f g = rw (e, f, g) (four-holds (at s) (h .below))
 
 -- each digit plus a
-pub plus-holds : (q a x y : ℕ) → x < 18446744073709551616 → isAlphabet q ≡ true → a < q → ((l : ℕ) → l < 8 → digit 8 x l < q) → Holds 8 y (λ l. a) → Holds 8 (x + y) (λ l. digit 8 x l + a)
+pub plus-holds : (q a x y : ℕ) → x < 18446744073709551616 → isAlphabet q ≡ true → a < q → ((l : ℕ) → l < 8 → digit 8 x l < q) → Holds 8 y (λ l. a)
+    → Holds 8 (x + y) (λ l. digit 8 x l + a)
 plus-holds q a x y h e b each s =
     hold-plus 8 x y (digit 8 x) (λ l. a) (record { fits = h; each = λ l k. refl }) s (λ l k. omega (arith, b, each l k, alphabet-bounds q (alphabet q e)))
 
@@ -65,11 +66,13 @@ module _ (s : ℕ → ℕ) (p : ℕ) (h : (k : ℕ) → k < 4 → s k < 8) (four
       high : (l : ℕ) → l < 4 → s 0 + linear 2 (λ k. s (suc k)) l + s 3 ≡ s 0 + linear 3 (λ k. s (suc k)) (4 + l)
       high l k = omega (arith, linear-high 2 (λ k. s (suc k)) l k, ap (linear 3 (λ k. s (suc k))) (add-comm 4 l))
 
-pub eight-code : (s : List ℕ) (p x : ℕ) → Small 4 s → Holds 4 p (unreduced 2 (at s)) → x ≡ at s 3 → Holds 8 (p + (p + x * 16843009) * 4294967296 % 18446744073709551616) (unreduced 3 (at s))
+pub eight-code : (s : List ℕ) (p x : ℕ) → Small 4 s → Holds 4 p (unreduced 2 (at s)) → x ≡ at s 3
+    → Holds 8 (p + (p + x * 16843009) * 4294967296 % 18446744073709551616) (unreduced 3 (at s))
 eight-code s p x h four e = rw e (eight-holds (at s) p (h .below) four)
 
 -- the places of a word, written as digits that are reduced
-pub written-put : (q m n r x : ℕ) (s w v : List ℕ) → 2 ^ m ≡ n → ((l : ℕ) → l < n → digit 8 r l ≡ digit 8 x l % q) → Holds n x (unreduced m (at s)) → Put n r 0 w v → Written q m s w v
+pub written-put : (q m n r x : ℕ) (s w v : List ℕ) → 2 ^ m ≡ n → ((l : ℕ) → l < n → digit 8 r l ≡ digit 8 x l % q) → Holds n x (unreduced m (at s))
+    → Put n r 0 w v → Written q m s w v
 unfolding symbolAt unreduced
 written-put q m n r x s w v h e b p = record {
   size = p .size;

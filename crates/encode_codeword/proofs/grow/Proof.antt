@@ -12,7 +12,8 @@ shared-slice-read-double c = search needs
 double-requires : tie.Need-double-requires
 double-requires c κs =
     let s = c .before .before .before .before .before in
-    chunks-ask _ _ 1 (s .args .word .now) (grow-asks (s .args .q) (s .args .k) 3 8 (s .args .message .now) (s .args .word .now) (omega (arith, s .pre .1 .variables)) refl (s .pre .2) _ (s .pre .1 .below _ (omega arith)) (s .pre .1))
+    chunks-ask _ _ 1 (s .args .word .now)
+    (grow-asks (s .args .q) (s .args .k) 3 8 (s .args .message .now) (s .args .word .now) (omega (arith, s .pre .1 .variables)) refl (s .pre .2) _ (s .pre .1 .below _ (omega arith)) (s .pre .1))
 
 shared-slice-read-double-2 : tie.Need-shared-slice-read-double-2
 shared-slice-read-double-2 c = search needs
@@ -20,7 +21,8 @@ shared-slice-read-double-2 c = search needs
 double-requires-2 : tie.Need-double-requires-2
 double-requires-2 c κs =
     let s = c .before .before .before .before .before in
-    chunks-ask _ _ 2 (s .args .word .now) (grow-asks (s .args .q) (s .args .k) 4 16 (s .args .message .now) (s .args .word .now) (omega (arith, s .pre .1 .variables)) refl (s .pre .2) _ (s .pre .1 .below _ (omega arith)) (s .pre .1))
+    chunks-ask _ _ 2 (s .args .word .now)
+    (grow-asks (s .args .q) (s .args .k) 4 16 (s .args .message .now) (s .args .word .now) (omega (arith, s .pre .1 .variables)) refl (s .pre .2) _ (s .pre .1 .below _ (omega arith)) (s .pre .1))
 
 shared-slice-read-double-3 : tie.Need-shared-slice-read-double-3
 shared-slice-read-double-3 c = search needs
@@ -28,7 +30,8 @@ shared-slice-read-double-3 c = search needs
 double-requires-3 : tie.Need-double-requires-3
 double-requires-3 c κs =
     let s = c .before .before .before .before .before in
-    chunks-ask _ _ 4 (s .args .word .now) (grow-asks (s .args .q) (s .args .k) 5 32 (s .args .message .now) (s .args .word .now) (omega (arith, s .pre .1 .variables)) refl (s .pre .2) _ (s .pre .1 .below _ (omega arith)) (s .pre .1))
+    chunks-ask _ _ 4 (s .args .word .now)
+    (grow-asks (s .args .q) (s .args .k) 5 32 (s .args .message .now) (s .args .word .now) (omega (arith, s .pre .1 .variables)) refl (s .pre .2) _ (s .pre .1 .below _ (omega arith)) (s .pre .1))
 
 shared-slice-read-double-each : tie.Need-shared-slice-read-double-each
 shared-slice-read-double-each c = search needs
