@@ -126,7 +126,9 @@ module _ (m : ℕ) (re im : List Float) where
   pub message-is : (l v : ℕ) (f : List ℕ) → l ≡ suc m → m ≤ 8 → Found m re im m f → v ≡ symbol (constantDecision m re im)
       → take l (set f 0 v) ≡ softMessage f32 m (sample f32 re im)
   unfolding softMessage decision coefficient constantDecision
-  message-is l v f e h g c = rw e (tabulate-is (suc m) _ (take (suc m) (set f 0 v)) (omega (arith, length-take (suc m) (set f 0 v), length-set f 0 v, g .size)) (λ i u. getD-take (suc m) (set f 0 v) i 0 u ∙ each i u))
+  message-is l v f e h g c =
+      rw e
+      (tabulate-is (suc m) _ (take (suc m) (set f 0 v)) (omega (arith, length-take (suc m) (set f 0 v), length-set f 0 v, g .size)) (λ i u. getD-take (suc m) (set f 0 v) i 0 u ∙ each i u))
     where
       each : (i : ℕ) → i < suc m → at (set f 0 v) i ≡ symbol (decision f32 m (sample f32 re im) i)
       each zero u = getD-set-same f 0 v 0 (omega (arith, g .size)) ∙ c

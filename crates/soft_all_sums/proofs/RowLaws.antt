@@ -53,7 +53,8 @@ module _ (re im : List Float) (k b : ℕ) where
     size = length-set (set u (16 * k + x) v) (16 * k + 8 + x) w ∙ length-set u (16 * k + x) v ∙ d .size;
     below = λ n m. other n (λ z. absurd (omega (arith, z))) (λ z. absurd (omega (arith, z))) ∙ d .below n m;
     row = below-more (λ y. inRow (set (set u (16 * k + x) v) (16 * k + 8 + x) w) (16 * k) y ≡ voteAt re im k (8 * b + y)) x
-        (λ y m. ap₂ complex (other (16 * k + y) (λ z. absurd (omega (arith, z))) (λ z. absurd (omega (arith, z)))) (other (16 * k + 8 + y) (λ z. absurd (omega (arith, z))) (λ z. absurd (omega (arith, z)))) ∙ d .row y m)
+        (λ y m. ap₂ complex (other (16 * k + y) (λ z. absurd (omega (arith, z))) (λ z. absurd (omega (arith, z))))
+        (other (16 * k + 8 + y) (λ z. absurd (omega (arith, z))) (λ z. absurd (omega (arith, z)))) ∙ d .row y m)
         (ap₂ complex (getD-set-other (set u (16 * k + x) v) (16 * k + 8 + x) (16 * k + x) w _ (λ z. absurd (omega (arith, z))) ∙ getD-set-same u (16 * k + x) v _ (omega (arith, d .size)))
         (getD-set-same (set u (16 * k + x) v) (16 * k + 8 + x) w _ (omega (arith, length-set u (16 * k + x) v, d .size))) ∙ e);
   }
@@ -140,7 +141,9 @@ module _ (m : ℕ) (re im : List Float) where
   }
     where
       each : (l : ℕ) → l < m → (c : Bool) → leb e l ≡ c → held u l ≡ voteSums f32 m l (sample f32 re im)
-      each l h true c = d .rest l (leb-true e l c) ∙ t .each l (omega (arith, E, leb-true e l c)) h ∙ votes-all f32 m l (length re / 2) (sample f32 re im) h (even-samples m re (length re / 2) S refl)
+      each l h true c =
+          d .rest l (leb-true e l c) ∙ t .each l (omega (arith, E, leb-true e l c)) h
+          ∙ votes-all f32 m l (length re / 2) (sample f32 re im) h (even-samples m re (length re / 2) S refl)
       each l h false c = d .done l (omega arith) (leb-false e l c)
 
 -- ---- no sums

@@ -112,7 +112,10 @@ module _ (found : List ℕ) (c : Coefficients 2 found) where
       → s ≡ plus f32 r (turnBack f32 (at found 2) (sample f32 re im 2))
       → t ≡ plus f32 s (turnBack f32 (bitAnd (at found 1 + at found 2) 3) (sample f32 re im 3))
       → t ≡ constantSums f32 2 (coefficientsIn found) (sample f32 re im)
-  four-back re im p r s t P R S T = back-end 2 (coefficientsIn found) re im 4 t (next 3 _ s t (next 2 _ r s (next 1 _ p r (next 0 _ _ p (back-none 2 (coefficientsIn found) re im) (four-turns .0) P) (four-turns .1) R) (four-turns .2) S) (four-turns .3) T) refl
+  four-back re im p r s t P R S T =
+      back-end 2 (coefficientsIn found) re im 4 t
+      (next 3 _ s t (next 2 _ r s (next 1 _ p r (next 0 _ _ p (back-none 2 (coefficientsIn found) re im) (four-turns .0) P) (four-turns .1) R) (four-turns .2) S) (four-turns .3) T)
+      refl
     where
       next : (i u : ℕ) (x y : Complex Float) → x ≡ backTo f32 2 (coefficientsIn found) (sample f32 re im) i → u ≡ linear 2 (coefficientsIn found) i % 4
           → y ≡ plus f32 x (turnBack f32 u (sample f32 re im i)) → y ≡ backTo f32 2 (coefficientsIn found) (sample f32 re im) (i + 1)

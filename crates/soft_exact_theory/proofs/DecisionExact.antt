@@ -42,7 +42,8 @@ module _ (x : Complex Float) (z : Complex ℤ) (w : WholeParts x z) (B : ℕ) (h
   unfolding decideBy Same
   by-whole l s a b p n L S i j =
       rw (
-        clear-whole (magnitude f32 l) (magnitude f32 s) (magnitude integers a) (magnitude integers b) (magnitude-whole l a L) (magnitude-whole s b S) (omega (arith, magnitude-abs a)) (omega (arith, magnitude-abs b)),
+        clear-whole (magnitude f32 l) (magnitude f32 s) (magnitude integers a) (magnitude integers b) (magnitude-whole l a L) (magnitude-whole s b S)
+            (omega (arith, magnitude-abs a)) (omega (arith, magnitude-abs b)),
         whole-lt (f32 .number 0) l (pos 0) a (whole-number 0 (omega arith)) L,
       )
       (go (isClear integers (magnitude integers a) (magnitude integers b)) (integers .lt (pos 0) a))
@@ -58,7 +59,9 @@ module _ (x : Complex Float) (z : Complex ℤ) (w : WholeParts x z) (B : ℕ) (h
       rw (whole-lt (magnitude f32 (x .re)) (magnitude f32 (x .im)) (magnitude integers (z .re)) (magnitude integers (z .im)) (magnitude-whole _ _ (w .re)) (magnitude-whole _ _ (w .im)))
       (go (integers .lt (magnitude integers (z .re)) (magnitude integers (z .im))))
     where
-      go : (t : Bool) → Same (cond t (decideBy f32 (x .im) (x .re) 1 3 x) (decideBy f32 (x .re) (x .im) 0 2 x)) (cond t (decideBy integers (z .im) (z .re) 1 3 z) (decideBy integers (z .re) (z .im) 0 2 z))
+      go : (t : Bool)
+          → Same (cond t (decideBy f32 (x .im) (x .re) 1 3 x) (decideBy f32 (x .re) (x .im) 0 2 x))
+          (cond t (decideBy integers (z .im) (z .re) 1 3 z) (decideBy integers (z .re) (z .im) 0 2 z))
       go true = by-whole (x .im) (x .re) (z .im) (z .re) 1 3 (w .im) (w .re) (h .im) (omega (arith, h .re))
       go false = by-whole (x .re) (x .im) (z .re) (z .im) 0 2 (w .re) (w .im) (omega (arith, h .re)) (h .im)
 

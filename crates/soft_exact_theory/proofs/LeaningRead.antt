@@ -40,7 +40,9 @@ pub record Leaning (m : ℕ) (s : ℕ → ℕ) (z : ℕ → Complex ℤ) : Type 
 module _ (m : ℕ) (s : ℕ → ℕ) (z : ℕ → Complex ℤ) (f : Leaning m s z) where
   vote-decided : (k : ℕ) → k < m → decide integers (voteSums integers m k z) ≡ sure (s (suc k)) (voteSums integers m k z)
   unfolding voteSums
-  vote-decided k h = rw (some m) (leans-sure (s (suc k)) _ (f .symbols (suc k) (omega arith)) (leans-sums (s (suc k)) (2 ^ m - 1) (bit k) _ (bit-low k 0 (pow-pos k)) (λ i l e. f .votes k h i (omega (arith, some m)) e)))
+  vote-decided k h =
+      rw (some m)
+      (leans-sure (s (suc k)) _ (f .symbols (suc k) (omega arith)) (leans-sums (s (suc k)) (2 ^ m - 1) (bit k) _ (bit-low k 0 (pow-pos k)) (λ i l e. f .votes k h i (omega (arith, some m)) e)))
 
   coefficient-is : (k : ℕ) → k < m → coefficient integers m z k ≡ s (suc k)
   unfolding coefficient symbol
@@ -84,7 +86,8 @@ leaning-read m t message re im zr zi l h T M R I a b r i f =
     none : readRefusal integers m message zr zi ≡ 0
     none = no-refusal m message zr zi l h M a b r i (sure-all m (at t) (sample integers zr zi) f)
 
-no-vote-refusal : (m k : ℕ) (zr zi : List ℤ) → 2 ≤ m → m ≤ 8 → length zr ≡ 2 ^ m → length zi ≡ 2 ^ m → allInRange integers zr ≡ true → allInRange integers zi ≡ true → k < m
+no-vote-refusal : (m k : ℕ) (zr zi : List ℤ) → 2 ≤ m → m ≤ 8 → length zr ≡ 2 ^ m → length zi ≡ 2 ^ m → allInRange integers zr ≡ true
+    → allInRange integers zi ≡ true → k < m
     → voteRefusal integers m k zr zi ≡ 0
 unfolding voteRefusal isVariables ask
 no-vote-refusal m k zr zi l h a b r i j = rw (le-leb 2 m l, le-leb m 8 h, eq-eqb (length zr) (2 ^ m) a, eq-eqb (length zi) (2 ^ m) b, r, i, lt-ltb k m j)

@@ -37,7 +37,9 @@ abbrev pub leansTo : ℕ → Complex ℤ → Bool
 leansTo d z = ltb 0 (ahead d z) && leb (3 * aside d z) (2 * ahead d z)
 
 pub leans-tested : (d : ℕ) (z : Complex ℤ) → leansTo d z ≡ true → Leans d z
-leans-tested d z e = let (a, b) = and-true (ltb 0 (ahead d z)) (leb (3 * aside d z) (2 * ahead d z)) e in record { some = ltb-true 0 (ahead d z) a; narrow = leb-true (3 * aside d z) (2 * ahead d z) b }
+leans-tested d z e =
+    let (a, b) = and-true (ltb 0 (ahead d z)) (leb (3 * aside d z) (2 * ahead d z)) e in
+    record { some = ltb-true 0 (ahead d z) a; narrow = leb-true (3 * aside d z) (2 * ahead d z) b }
 
 -- ---- sums
 above-add : (a b : ℤ) → 0 < above a → 0 < above b → above (a +ℤ b) ≡ above a + above b
@@ -52,13 +54,22 @@ below-add (negsuc a) (negsuc b) h k = omega arith
 
 leans-add : (d : ℕ) (z w : Complex ℤ) → Leans d z → Leans d w → Leans d (plus integers z w)
 unfolding plus
-leans-add zero z w f g = record { some = omega (arith, above-add (z .re) (w .re) (f .some) (g .some), f .some); narrow = omega (arith, above-add (z .re) (w .re) (f .some) (g .some), abs-add (z .im) (w .im), f .narrow, g .narrow) }
-leans-add (suc zero) z w f g = record { some = omega (arith, above-add (z .im) (w .im) (f .some) (g .some), f .some); narrow = omega (arith, above-add (z .im) (w .im) (f .some) (g .some), abs-add (z .re) (w .re), f .narrow, g .narrow) }
-leans-add (suc (suc zero)) z w f g = record { some = omega (arith, below-add (z .re) (w .re) (f .some) (g .some), f .some); narrow = omega (arith, below-add (z .re) (w .re) (f .some) (g .some), abs-add (z .im) (w .im), f .narrow, g .narrow) }
-leans-add (suc (suc (suc d))) z w f g = record { some = omega (arith, below-add (z .im) (w .im) (f .some) (g .some), f .some); narrow = omega (arith, below-add (z .im) (w .im) (f .some) (g .some), abs-add (z .re) (w .re), f .narrow, g .narrow) }
+leans-add zero z w f g =
+    let e = above-add (z .re) (w .re) (f .some) (g .some) in
+    record { some = omega (arith, e, f .some); narrow = omega (arith, e, abs-add (z .im) (w .im), f .narrow, g .narrow) }
+leans-add (suc zero) z w f g =
+    let e = above-add (z .im) (w .im) (f .some) (g .some) in
+    record { some = omega (arith, e, f .some); narrow = omega (arith, e, abs-add (z .re) (w .re), f .narrow, g .narrow) }
+leans-add (suc (suc zero)) z w f g =
+    let e = below-add (z .re) (w .re) (f .some) (g .some) in
+    record { some = omega (arith, e, f .some); narrow = omega (arith, e, abs-add (z .im) (w .im), f .narrow, g .narrow) }
+leans-add (suc (suc (suc d))) z w f g =
+    let e = below-add (z .im) (w .im) (f .some) (g .some) in
+    record { some = omega (arith, e, f .some); narrow = omega (arith, e, abs-add (z .re) (w .re), f .narrow, g .narrow) }
 
 -- a sum of terms that lean to d, the first of which is not left out
-pub leans-sums : (d n : ℕ) (closed : ℕ → ℕ) (z : ℕ → Complex ℤ) → closed 0 ≡ 0 → ((i : ℕ) → i < suc n → closed i ≡ 0 → Leans d (z i)) → Leans d (sums integers (suc n) closed z)
+pub leans-sums : (d n : ℕ) (closed : ℕ → ℕ) (z : ℕ → Complex ℤ) → closed 0 ≡ 0 → ((i : ℕ) → i < suc n → closed i ≡ 0 → Leans d (z i))
+    → Leans d (sums integers (suc n) closed z)
 unfolding sums upward stepIfClear plus
 leans-sums d zero closed z e h = rw (e, +ℤ-idl, +ℤ-idl) (h 0 (omega arith) e)
 leans-sums d (suc n) closed z e h = go (closed (suc n)) refl (leans-sums d n closed z e (λ i l. h i (omega arith)))

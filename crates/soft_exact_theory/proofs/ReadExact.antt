@@ -130,7 +130,8 @@ module _ (m : ℕ) (re im : List Float) (zr zi : List ℤ) (R : Wholes re zr) (I
   unfolding softVote voteAnswer Same
   whole-vote k = rw (vote-refusal-same k) (go (voteRefusal integers m k zr zi) refl)
     where
-      go : (n : ℕ) → voteRefusal integers m k zr zi ≡ n → Same (voteAnswer n (decide f32 (voteSums f32 m k (sample f32 re im)))) (voteAnswer n (decide integers (voteSums integers m k (sample integers zr zi))))
+      go : (n : ℕ) → voteRefusal integers m k zr zi ≡ n
+          → Same (voteAnswer n (decide f32 (voteSums f32 m k (sample f32 re im)))) (voteAnswer n (decide integers (voteSums integers m k (sample integers zr zi))))
       go zero e =
           let (s, h) = vote-samples k e in
           vote-same m (sample f32 re im) (sample integers zr zi) s k h

@@ -41,8 +41,12 @@ loop-again : tie.Need-loop-again Inv-loop μ-loop
 loop-again c =
     let p = c .before in
     let r = p .before in
-    let l = r .before .before .before in
-    (omega arith, refl, range-next _ _ (l .loop .i) (l .loop .all) (r .in-range .result) (c .in-range2 .result) (r .before .part .result) (p .part2 .result) (l .loop .inv .2) (r .before .part .ensures) (r .in-range .ensures) (p .part2 .ensures) (c .in-range2 .ensures))
+    let l = r .before .before .before in (
+      omega arith,
+      refl,
+      range-next _ _ (l .loop .i) (l .loop .all) (r .in-range .result) (c .in-range2 .result) (r .before .part .result) (p .part2 .result)
+          (l .loop .inv .2) (r .before .part .ensures) (r .in-range .ensures) (p .part2 .ensures) (c .in-range2 .ensures),
+    )
 
 returns : tie.Need-returns Inv-loop μ-loop
 returns c = range-both _ _ (c .before .loop .i) (c .before .loop .all) (c .before .loop .inv .2) (omega arith) (omega (arith, c .before .before .before .before .pre))

@@ -31,8 +31,12 @@ loop-less c = search needs
 
 loop-again : tie.Need-loop-again Inv-loop μ-loop
 loop-again c =
-    let l = c .before .before in
-    (omega arith, refl, length-set (l .loop .message) (l .loop .i) _ ∙ l .loop .inv .2, copy-next (l .loop .message) (l .before .args .found .now) (l .loop .i) (omega arith) (omega arith) (l .loop .inv .3))
+    let l = c .before .before in (
+      omega arith,
+      refl,
+      length-set (l .loop .message) (l .loop .i) _ ∙ l .loop .inv .2,
+      copy-next (l .loop .message) (l .before .args .found .now) (l .loop .i) (omega arith) (omega arith) (l .loop .inv .3),
+    )
 
 same-length : tie.Need-same-length Inv-loop μ-loop
 same-length c = search needs

@@ -43,8 +43,13 @@ returns c =
     let b = v .before in
     let a = b .before .before in
     let s = a .before .before .before .before .before in (
-      both-sure _ _ _ (c .before .is-sure .result) (c .is-sure2 .result) (tested _ _ _ _ (a .before .four-sums .ensures) (a .decision .ensures) (c .before .is-sure .ensures)) (tested _ _ _ _ (b .before .four-sums2 .ensures) (b .decision2 .ensures) (c .is-sure2 .ensures)),
-      λ e. both-found _ _ _ (v .symbol-of .result) (c .before .before .symbol-of2 .result) (s .args .found .now) (s .pre .1) (s .pre .2) (learnt _ _ _ _ (a .before .four-sums .ensures) (a .decision .ensures) (v .symbol-of .ensures)) (learnt _ _ _ _ (b .before .four-sums2 .ensures) (b .decision2 .ensures) (c .before .before .symbol-of2 .ensures)),
+      both-sure _ _ _ (c .before .is-sure .result) (c .is-sure2 .result)
+          (tested _ _ _ _ (a .before .four-sums .ensures) (a .decision .ensures) (c .before .is-sure .ensures))
+          (tested _ _ _ _ (b .before .four-sums2 .ensures) (b .decision2 .ensures) (c .is-sure2 .ensures)),
+      λ e.
+          both-found _ _ _ (v .symbol-of .result) (c .before .before .symbol-of2 .result) (s .args .found .now) (s .pre .1) (s .pre .2)
+          (learnt _ _ _ _ (a .before .four-sums .ensures) (a .decision .ensures) (v .symbol-of .ensures))
+          (learnt _ _ _ _ (b .before .four-sums2 .ensures) (b .decision2 .ensures) (c .before .before .symbol-of2 .ensures)),
     )
 
 pub decide-both-spec : {M : Type 1} → statement M

@@ -42,8 +42,10 @@ returns c =
     let r = c .before .before in
     let q = r .before .before in
     let p = q .before .before in
-    range-four _ (p .before .before .before .args .i) (p .before .part .result) (q .before .part2 .result) (r .before .part3 .result) (c .before .part4 .result) (p .in-range .result) (q .in-range2 .result) (r .in-range3 .result) (c .in-range4 .result)
-    (p .before .part .ensures) (p .in-range .ensures) (q .before .part2 .ensures) (q .in-range2 .ensures) (r .before .part3 .ensures) (r .in-range3 .ensures) (c .before .part4 .ensures) (c .in-range4 .ensures)
+    range-four _ (p .before .before .before .args .i) (p .before .part .result) (q .before .part2 .result) (r .before .part3 .result)
+    (c .before .part4 .result) (p .in-range .result) (q .in-range2 .result) (r .in-range3 .result) (c .in-range4 .result)
+    (p .before .part .ensures) (p .in-range .ensures) (q .before .part2 .ensures) (q .in-range2 .ensures) (r .before .part3 .ensures)
+    (r .in-range3 .ensures) (c .before .part4 .ensures) (c .in-range4 .ensures)
 
 pub four-in-range-spec : {M : Type 1} → statement M
 four-in-range-spec =

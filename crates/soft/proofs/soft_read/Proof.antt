@@ -50,7 +50,9 @@ returns-3 c =
     let g = t .before .before .before in
     let f = g .before .before in
     let e = f .before .before in
-    read-unsure _ _ _ _ _ (e .before .sample-refusal .ensures) (e .if1 .left) (constant-unsure _ _ _ (t .is-sure .result) (sym (not-false _ (g .if2 .left)) ∙ f .coefficients .ensures .0) (t .is-sure .ensures ∙ ap isSure (t .before .constant .ensures)) (c .if3 .taken))
+    read-unsure _ _ _ _ _ (e .before .sample-refusal .ensures) (e .if1 .left)
+    (constant-unsure _ _ _ (t .is-sure .result) (sym (not-false _ (g .if2 .left)) ∙ f .coefficients .ensures .0)
+    (t .is-sure .ensures ∙ ap isSure (t .before .constant .ensures)) (c .if3 .taken))
 
 symbol-of-requires : tie.Need-symbol-of-requires
 symbol-of-requires c κs = search needs
@@ -81,7 +83,13 @@ returns-4 c =
     let f = g .before .before in
     let e = f .before .before in
     let (s, l) = read-accepted _ _ _ _ (sym (e .before .sample-refusal .ensures) ∙ e .if1 .left) in
-    read-sure _ _ _ _ _ (e .before .sample-refusal .ensures) (e .if1 .left) (all-yes _ _ _ (t .is-sure .result) (sym (not-false _ (g .if2 .left)) ∙ f .coefficients .ensures .0) (t .is-sure .ensures ∙ ap isSure (t .before .constant .ensures)) (v .before .if3 .left)) _ (c .before .before .copy .ensures ∙ message-is _ _ _ _ (v .symbol-of .result) _ l (s .high) (f .coefficients .ensures .1 (not-false _ (g .if2 .left))) (v .symbol-of .ensures ∙ ap symbol (t .before .constant .ensures)))
+    read-sure _ _ _ _ _ (e .before .sample-refusal .ensures) (e .if1 .left)
+    (all-yes _ _ _ (t .is-sure .result) (sym (not-false _ (g .if2 .left)) ∙ f .coefficients .ensures .0)
+    (t .is-sure .ensures ∙ ap isSure (t .before .constant .ensures)) (v .before .if3 .left))
+    _
+    (c .before .before .copy .ensures
+    ∙ message-is _ _ _ _ (v .symbol-of .result) _ l (s .high) (f .coefficients .ensures .1 (not-false _ (g .if2 .left)))
+    (v .symbol-of .ensures ∙ ap symbol (t .before .constant .ensures)))
 
 pub soft-read-spec : {M : Type 1} → statement M
 soft-read-spec =

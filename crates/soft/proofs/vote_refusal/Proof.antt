@@ -34,7 +34,8 @@ returns-3 c =
     let i = b .before in
     let t = i .before in
     let o = t .before in
-    vote-range _ _ _ _ (sym (o .before .is-variables .ensures) ∙ not-false _ (o .if1 .left)) (t .are-sized .result) (t .are-sized .ensures) (i .if2 .left) (b .few-in-range .result) (b .few-in-range .ensures) (c .if3 .taken)
+    vote-range _ _ _ _ (sym (o .before .is-variables .ensures) ∙ not-false _ (o .if1 .left)) (t .are-sized .result) (t .are-sized .ensures)
+    (i .if2 .left) (b .few-in-range .result) (b .few-in-range .ensures) (c .if3 .taken)
 
 returns-4 : tie.Need-returns-4
 returns-4 c =
@@ -43,7 +44,8 @@ returns-4 c =
     let i = b .before in
     let t = i .before in
     let o = t .before in
-    vote-no _ _ _ _ (sym (o .before .is-variables .ensures) ∙ not-false _ (o .if1 .left)) (t .are-sized .result) (t .are-sized .ensures) (i .if2 .left) (b .few-in-range .result) (b .few-in-range .ensures) (j .if3 .left) (c .if4 .taken)
+    vote-no _ _ _ _ (sym (o .before .is-variables .ensures) ∙ not-false _ (o .if1 .left)) (t .are-sized .result) (t .are-sized .ensures)
+    (i .if2 .left) (b .few-in-range .result) (b .few-in-range .ensures) (j .if3 .left) (c .if4 .taken)
 
 returns-5 : tie.Need-returns-5
 returns-5 c =
@@ -52,7 +54,8 @@ returns-5 c =
     let i = b .before in
     let t = i .before in
     let o = t .before in
-    vote-yes _ _ _ _ (sym (o .before .is-variables .ensures) ∙ not-false _ (o .if1 .left)) (t .are-sized .result) (t .are-sized .ensures) (i .if2 .left) (b .few-in-range .result) (b .few-in-range .ensures) (j .if3 .left) (c .if4 .left)
+    vote-yes _ _ _ _ (sym (o .before .is-variables .ensures) ∙ not-false _ (o .if1 .left)) (t .are-sized .result) (t .are-sized .ensures)
+    (i .if2 .left) (b .few-in-range .result) (b .few-in-range .ensures) (j .if3 .left) (c .if4 .left)
 
 pub vote-refusal-spec : {M : Type 1} → statement M
 vote-refusal-spec =

@@ -52,8 +52,12 @@ unfolding pair
 loop-again c =
     let p = c .before .before in
     let l = p .before .before in
-    let s = l .before .before .before .before in
-    (omega arith, row-next _ _ _ _ (l .loop .x) (pair (l .loop .s)) _ _ (l .loop .inv .1) (ap₂ complex (p .part .ensures) (c .before .part2 .ensures) ∙ s .pre .3 .each _ (s .pre .1) (s .pre .2) (l .loop .x) (omega arith)) (c .add .ensures))
+    let s = l .before .before .before .before in (
+      omega arith,
+      row-next _ _ _ _ (l .loop .x) (pair (l .loop .s)) _ _ (l .loop .inv .1)
+          (ap₂ complex (p .part .ensures) (c .before .part2 .ensures) ∙ s .pre .3 .each _ (s .pre .1) (s .pre .2) (l .loop .x) (omega arith))
+          (c .add .ensures),
+    )
 
 returns : tie.Need-returns Inv-loop μ-loop
 returns c = c .before .loop .inv .1 ∙ ap (votesTo f32 _ _) (omega arith)

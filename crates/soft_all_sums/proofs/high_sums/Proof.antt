@@ -50,8 +50,14 @@ unfolding votesOf
 add-row-requires c κs =
     let k = c .before .before .before in
     let l = k .before .before .before .before .before .before in
-    let s = l .before .before .before .before in
-    (s .pre .0 .high, k .loop2 .inv .0, omega arith, k .before .before .before .put-rows .ensures, held-is (k .loop2 .all) (k .loop2 .k) _ (omega (arith, k .loop2 .inv .2 .size, s .pre .0 .high)) ∙ k .loop2 .inv .2 .rest (k .loop2 .k) (omega arith) ∙ l .loop .inv .2 .each (k .loop2 .k) (k .loop2 .inv .0) (omega arith))
+    let s = l .before .before .before .before in (
+      s .pre .0 .high,
+      k .loop2 .inv .0,
+      omega arith,
+      k .before .before .before .put-rows .ensures,
+      held-is (k .loop2 .all) (k .loop2 .k) _ (omega (arith, k .loop2 .inv .2 .size, s .pre .0 .high))
+          ∙ k .loop2 .inv .2 .rest (k .loop2 .k) (omega arith) ∙ l .loop .inv .2 .each (k .loop2 .k) (k .loop2 .inv .0) (omega arith),
+    )
 
 mul-all : tie.Need-mul-all Inv-loop2 μ-loop2 Inv-loop μ-loop
 mul-all c = search needs

@@ -52,8 +52,12 @@ add-vote-at c = search needs
 vote-at-requires : tie.Need-vote-at-requires Inv-loop μ-loop
 vote-at-requires c κs =
     let l = c .before .before in
-    let s = l .before .before .before .before in
-    (s .pre .0, s .pre .2, block-room _ _ _ _ _ (l .loop .x) (s .pre .0) (s .pre .2) (s .pre .3) (omega arith) .1, ap (λ n. n + l .loop .x % 4) (c .nth-clear .ensures) ∙ near (s .args .k) (s .args .b) (l .loop .x) (s .pre .1))
+    let s = l .before .before .before .before in (
+      s .pre .0,
+      s .pre .2,
+      block-room _ _ _ _ _ (l .loop .x) (s .pre .0) (s .pre .2) (s .pre .3) (omega arith) .1,
+      ap (λ n. n + l .loop .x % 4) (c .nth-clear .ensures) ∙ near (s .args .k) (s .args .b) (l .loop .x) (s .pre .1),
+    )
 
 add-rows : tie.Need-add-rows Inv-loop μ-loop
 add-rows c = search needs

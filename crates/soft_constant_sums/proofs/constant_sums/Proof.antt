@@ -66,7 +66,9 @@ loop-again c =
     let first = c .before .before in (
       omega arith,
       refl,
-      back-more _ _ _ _ (l .b) _ _ (pair (l .all)) (pair (first .add .result)) _ _ _ (l .inv .2) (s .pre .1 .each (2 * l .b) (omega (arith, s .pre .0 .reals))) (first .before .turned .ensures) (first .add .ensures) (s .pre .1 .each (2 * l .b + 1) (omega (arith, s .pre .0 .reals))) (c .before .turned2 .ensures) (c .add2 .ensures),
+      back-more _ _ _ _ (l .b) _ _ (pair (l .all)) (pair (first .add .result)) _ _ _ (l .inv .2)
+          (s .pre .1 .each (2 * l .b) (omega (arith, s .pre .0 .reals))) (first .before .turned .ensures) (first .add .ensures)
+          (s .pre .1 .each (2 * l .b + 1) (omega (arith, s .pre .0 .reals))) (c .before .turned2 .ensures) (c .add2 .ensures),
     )
 
 returns : tie.Need-returns Inv-loop μ-loop

@@ -20,7 +20,8 @@ unfolding voted pair
 returns c =
     let t = c .before in
     let m = t .before in
-    by-unsure (pair (m .before .before .args .s)) (m .before .size-of .result) (m .size-of2 .result) (t .is-clear .result) (m .before .size-of .ensures) (m .size-of2 .ensures) (t .is-clear .ensures) (c .if1 .taken)
+    by-unsure (pair (m .before .before .args .s)) (m .before .size-of .result) (m .size-of2 .result) (t .is-clear .result)
+    (m .before .size-of .ensures) (m .size-of2 .ensures) (t .is-clear .ensures) (c .if1 .taken)
 
 by-sign-requires : tie.Need-by-sign-requires
 by-sign-requires c κs = search needs
@@ -37,7 +38,9 @@ returns-2 c =
     let i = c .before .before .before in
     let t = i .before in
     let m = t .before in
-    by-sure (pair (m .before .before .args .s)) (m .before .size-of .result) (m .size-of2 .result) (t .is-clear .result) (m .before .size-of .ensures) (m .size-of2 .ensures) (t .is-clear .ensures) (i .if1 .left) (c .before .before .by-sign .result) (c .before .by-sign2 .result) (c .pick .result) (c .before .before .by-sign .ensures) (c .before .by-sign2 .ensures) (c .pick .ensures)
+    by-sure (pair (m .before .before .args .s)) (m .before .size-of .result) (m .size-of2 .result) (t .is-clear .result) (m .before .size-of .ensures)
+    (m .size-of2 .ensures) (t .is-clear .ensures) (i .if1 .left) (c .before .before .by-sign .result) (c .before .by-sign2 .result) (c .pick .result)
+    (c .before .before .by-sign .ensures) (c .before .by-sign2 .ensures) (c .pick .ensures)
 
 pub decision-spec : {M : Type 1} → statement M
 decision-spec =

@@ -28,7 +28,8 @@ unfolding pair
 returns c =
     let first = c .before .before .before in
     let s = first .before .before .before .before .before in
-    votes-two _ _ (s .args .k) _ _ _ (pair (first .add .result)) _ (s .pre .1) (votes-none _ _ (s .args .k)) (first .before .vote-at .ensures) (first .add .ensures) (c .before .vote-at2 .ensures) (c .add2 .ensures)
+    votes-two _ _ (s .args .k) _ _ _ (pair (first .add .result)) _ (s .pre .1) (votes-none _ _ (s .args .k)) (first .before .vote-at .ensures)
+    (first .add .ensures) (c .before .vote-at2 .ensures) (c .add2 .ensures)
 
 pub four-sums-spec : {M : Type 1} → statement M
 four-sums-spec =

@@ -25,7 +25,9 @@ vote-term-requires c κs = search needs
 returns : tie.Need-returns
 returns c =
     let t = c .before in
-    c .vote-term .ensures ∙ ap₂ (term f32) (sample-is _ _ _ _ _ (t .before .before .before .part .ensures) (t .before .before .part2 .ensures)) (sample-is _ _ _ _ _ (t .before .part3 .ensures) (t .part4 .ensures))
+    c .vote-term .ensures
+    ∙ ap₂ (term f32) (sample-is _ _ _ _ _ (t .before .before .before .part .ensures) (t .before .before .part2 .ensures))
+    (sample-is _ _ _ _ _ (t .before .part3 .ensures) (t .part4 .ensures))
 
 pub vote-of-spec : {M : Type 1} → statement M
 vote-of-spec =

@@ -85,7 +85,8 @@ nth-clear-requires-2 c κs =
 vote-of-requires-2 : tie.Need-vote-of-requires-2 Inv-loop μ-loop
 vote-of-requires-2 c κs =
     let s = c .before .before .before .before .before .before .before .before .before .before .before in
-    onward-rooms _ _ (2 * c .before .before .before .before .before .loop .b + 1) _ _ (s .pre .0) (s .pre .1) (omega arith) _ _ (c .nth-clear2 .ensures) (c .before .before .before .before .before .before .before .before .pow2 .ensures)
+    onward-rooms _ _ (2 * c .before .before .before .before .before .loop .b + 1) _ _ (s .pre .0) (s .pre .1) (omega arith) _ _
+    (c .nth-clear2 .ensures) (c .before .before .before .before .before .before .before .before .pow2 .ensures)
 
 add-requires-2 : tie.Need-add-requires-2 Inv-loop μ-loop
 add-requires-2 c κs = search needs
@@ -106,8 +107,13 @@ loop-again c =
     let z = r .before in
     let o = z .before in
     let l = o .before .before in
-    let p = l .before .before .before in
-    (omega arith, refl, votes-next _ _ _ (l .loop .b) (pair (l .loop .s)) (pair (r .add .result)) _ (pair (z .vote-of .result)) (pair (w .vote-of2 .result)) (l .loop .inv .2) (onward-vote _ _ _ _ _ _ _ (o .nth-clear .ensures) (p .pow2 .ensures) (z .vote-of .ensures)) (r .add .ensures) (onward-vote _ _ _ _ _ _ _ (n .nth-clear2 .ensures) (p .pow2 .ensures) (w .vote-of2 .ensures)) (c .add2 .ensures))
+    let p = l .before .before .before in (
+      omega arith,
+      refl,
+      votes-next _ _ _ (l .loop .b) (pair (l .loop .s)) (pair (r .add .result)) _ (pair (z .vote-of .result)) (pair (w .vote-of2 .result))
+          (l .loop .inv .2) (onward-vote _ _ _ _ _ _ _ (o .nth-clear .ensures) (p .pow2 .ensures) (z .vote-of .ensures)) (r .add .ensures)
+          (onward-vote _ _ _ _ _ _ _ (n .nth-clear2 .ensures) (p .pow2 .ensures) (w .vote-of2 .ensures)) (c .add2 .ensures),
+    )
 
 returns : tie.Need-returns Inv-loop μ-loop
 returns c =
