@@ -65,7 +65,9 @@ read-from q m n s word message delivery h (r, e, v) =
     let d : delivery ≡ receiveDelivery s word = delivery-told delivery (receiveDelivery s word) v in
     record {
       readable = subst₂ (λ a c. isReadable a c word ≡ true) (h .isQ) (h .isM) r;
-      message = subst₂ (λ a c. message ≡ set (nearMessage a c word) 0 (zoneSymbol (delivery .zone))) (h .isQ) (h .isM) (e ∙ ap (λ x. set (nearMessage (s .q) (s .m) word) 0 (zoneSymbol (x .zone))) (sym d));
+      message =
+          subst₂ (λ a c. message ≡ set (nearMessage a c word) 0 (zoneSymbol (delivery .zone))) (h .isQ) (h .isM)
+          (e ∙ ap (λ x. set (nearMessage (s .q) (s .m) word) 0 (zoneSymbol (x .zone))) (sym d));
       zone = ap (λ x. x .zone) d ∙ ap₂ (λ a c. zoneFrom a (s .reference) (receiveConstant a c word)) (h .isQ) (h .isM);
       wrong = ap (λ x. x .wrong) d ∙ ap₂ (λ a c. nearDistance a c word) (h .isQ) (h .isM);
       time = ap (λ x. x .time) d ∙ ap slotTime (h .used);
@@ -133,7 +135,9 @@ module _ (q m : ℕ) (alphabet : isAlphabet q ≡ true) (variables : isVariables
   strap-chain = chain senderCall senderSlot nextSender SentBy sender-step (fresh q m) sends
 
   fresh-at : SenderAt q m 0 (fresh q m)
-  fresh-at = record { isQ = refl; isM = refl; used = refl; sound = sender-sound _ (record { alphabet = alphabet; variables = variables; last = alphabet-positive q alphabet; used = omega arith; start = refl }) }
+  fresh-at =
+      let parts = record { alphabet = alphabet; variables = variables; last = alphabet-positive q alphabet; used = omega arith; start = refl } in
+      record { isQ = refl; isM = refl; used = refl; sound = sender-sound _ parts }
 
   sender-at : (j : ℕ) (x : SenderSlot) → getElem? strap j ≡ some x → SenderAt q m j (senderBefore j)
   sender-at j x e = rw zero-add at (chain-before senderCall senderSlot nextSender SentBy (SenderAt q m) (sender-keep q m) 0 (fresh q m) strap _ strap-chain fresh-at j x e)

@@ -36,7 +36,11 @@ copied-next message w₀ i w h l c = record {
 
 pub copied-placed : (constant : ℕ) (message w₀ w : List ℕ) (i : ℕ) → 0 < length message → length message ≤ length w₀ → i ≡ length message → Copied message w₀ i w
     → Placed constant message w₀ (set w 0 constant)
-copied-placed constant message w₀ w i h l e c = record { size = length-set w 0 constant ∙ c .size; each = each; rest = λ k b. getD-set-other w 0 k constant 0 (λ z. omega (arith, z, b, h)) ∙ c .rest k (omega (arith, b, e)) }
+copied-placed constant message w₀ w i h l e c = record {
+  size = length-set w 0 constant ∙ c .size;
+  each = each;
+  rest = λ k b. getD-set-other w 0 k constant 0 (λ z. omega (arith, z, b, h)) ∙ c .rest k (omega (arith, b, e));
+}
   where
     each : (k : ℕ) → k < length message → at (set w 0 constant) k ≡ at (set message 0 constant) k
     each zero b = getD-set-same w 0 constant 0 (omega (arith, c .size)) ∙ sym (getD-set-same message 0 constant 0 h)
