@@ -2,9 +2,9 @@
 use Prim.Native.Nat.{ℕ, zero, suc, suc-le-suc, _<_}
 use mathlib.Core.Path.{_≡_, refl, ap, sym, subst, _∙_}
 use mathlib.Core.Logic.{_⊎_, inl, inr, ⊎-elim}
-use mathlib.Core.Bool.{Bool, true, false}
+use mathlib.Core.Bool.{Bool, true, false, true≢false}
 use mathlib.Core.List.{List, [], _∷_, _++_, map, List·Memᴰ, List·Memᴰ·head, List·Memᴰ·tail, List·Memᴰ·not-nil, List·Memᴰ·cases-cons, List·Memᴰ·append-cases, List·Memᴰ·eq-of-singleton, Memᴰ·append-left, Memᴰ·append-right}
-use mathlib.Core.Option.{Option, none, some}
+use mathlib.Core.Option.{Option, none, some, Option·none-ne-some}
 use native.Mathlib.Nat.{not-suc-le-zero, suc-inj, eq-or-lt-of-le, le-of-suc-le-suc}
 use native.Mathlib.Omega.{arith}
 use lib.Seq.{ext-getD}
@@ -18,16 +18,10 @@ use Rattle.code_theory.proofs.SumLaws.{tabulate-length, tabulate-at}
 use Rattle.code_theory.proofs.CodeLaws.{distance-ext}
 use Rattle.code_theory.proofs.WinnerLaws.{Below, near-wins, winners-near}
 
-pub none≢some : (t : List ℕ) → none ≡ some t → ⊥
-none≢some t e = let z : _≡_ {A = ℕ} 0 1 = cc in omega arith
-
-true≢false : true ≡ false → ⊥
-true≢false e = let z : _≡_ {A = ℕ} 0 1 = cc in omega arith
-
 -- what is found passes the test and stands in the list
 pub find-some : (passes : List ℕ → Bool) (ts : List (List ℕ)) (t : List ℕ) → find passes ts ≡ some t → (passes t ≡ true) × List·Memᴰ t ts
 unfolding find firstOr
-find-some passes [] t e = absurd (none≢some t e)
+find-some passes [] t e = absurd (Option·none-ne-some t e)
 find-some passes (x ∷ ts) t e = go (passes x) refl (find-some passes ts t) e
   where
     go : (b : Bool) → passes x ≡ b → (find passes ts ≡ some t → (passes t ≡ true) × List·Memᴰ t ts)
@@ -43,7 +37,7 @@ find-none passes (x ∷ ts) e t i = go (passes x) refl (λ f. find-none passes t
   where
     go : (b : Bool) → passes x ≡ b → (find passes ts ≡ none → List·Memᴰ t ts → passes t ≡ false)
         → firstOr b x (find passes ts) ≡ none → (t ≡ x) ⊎ List·Memᴰ t ts → passes t ≡ false
-    go true p ih e i = absurd (none≢some x (sym e))
+    go true p ih e i = absurd (Option·none-ne-some x (sym e))
     go false p ih e (inl f) = ap passes f ∙ p
     go false p ih e (inr i) = ih e i
 
