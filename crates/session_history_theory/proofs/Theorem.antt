@@ -2,7 +2,7 @@
 use Prim.Native.Nat.{ℕ, zero, suc, _+_, _*_, _%_, _^_, _<_}
 use mathlib.Core.Path.{_≡_, refl, ap, ap₂, sym, subst, subst₂, _∙_}
 use mathlib.Core.Logic.{_↔_}
-use mathlib.Core.Bool.{true, false}
+use mathlib.Core.Bool.{true, false, true≢false}
 use mathlib.Core.List.{List, [], _∷_}
 use mathlib.Core.Option.{Option, none, some, Option·some-injective, Option·none-ne-some}
 use native.Mathlib.Nat.{zero-add}
@@ -249,8 +249,7 @@ module _ (q m t : ℕ) (alphabet : isAlphabet q ≡ true) (variables : isVariabl
         go (some (doubtful word)) e w =
             let no : isReadable q m y ≡ false = ap (isReadable q m) (sym (Option·some-injective word y w)) ∙ launch-doubtful q m alphabet variables calls j word e in
             let yes : isReadable q m y ≡ true = light-readable q m t (alphabet-positive q alphabet) x (lastAt j) such-sent y (such .light) in
-            let n : _≡_ {A = ℕ} 0 1 = cc in
-            absurd (omega arith)
+            absurd (true≢false (sym yes ∙ no))
         go (some missed) e w = absurd (Option·none-ne-some y w)
 
     such-constant : receiveConstant q m y ≡ ((lastAt j + at (x .message) 0) % q + t) % q
