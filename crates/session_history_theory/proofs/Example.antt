@@ -17,7 +17,7 @@ use Rattle.session_slot.specs.Slot.{slotTime}
 use Rattle.session_sender.specs.Sending.{soundSender, sendRefusal, sendAnswer, sendConstant, sendSession, sendWord}
 use Rattle.session_receiver.specs.Receiving.{isBelow, isMissing, soundReceiver, receiveRefusal, missRefusal, receiveConstant, zoneFrom, zoneSymbol, receiveDelivery, zoneValues, deliveryValues, receiveAnswer, receiveMessage, nextReceiver, afterReceive, receiveSession, missAnswer, missSession}
 use Rattle.session_history_theory.specs.Calls.{slotsOf, ifAccepted, Send, senderCall, senderSlot, senderSlots, ReceiverCall, receive, miss, read, doubtful, missed, ifReceived, receiverCall, receiverSlot, receiverSlots}
-use Rattle.session_history_theory.specs.Whole.{wordOf, Such}
+use Rattle.session_history_theory.specs.Whole.{wordOf, LightSlot}
 use Rattle.session_history_theory.proofs.Theorem.{fresh, listening}
 
 -- two words are sent, with a message of two symbols refused between them
@@ -57,12 +57,12 @@ none-altered : (altered 2 2 1 (at (1 ∷ 0 ∷ 1 ∷ 0 ∷ [])) (at (0 ∷ 1 ∷
 unfolding altered turn sum differ
 none-altered = (refl, refl)
 
-pub such-0 : Such 2 2 1 (senderSlots (fresh 2 2) sends) (receiverSlots (listening 2 2) calls) 0
+pub light-slot-0 : LightSlot 2 2 1 (senderSlots (fresh 2 2) sends) (receiverSlots (listening 2 2) calls) 0
     (record { message = 1 ∷ 1 ∷ 0 ∷ []; word = 1 ∷ 0 ∷ 1 ∷ 0 ∷ [] }) (0 ∷ 1 ∷ 0 ∷ 1 ∷ [])
 unfolding wordOf
-such-0 = record { sent = ap (λ l. getElem? l 0) sent-slots; received = ap (λ l. wordOf (getElem? l 0)) received-slots; light = omega (arith, none-altered .0) }
+light-slot-0 = record { sent = ap (λ l. getElem? l 0) sent-slots; received = ap (λ l. wordOf (getElem? l 0)) received-slots; light = omega (arith, none-altered .0) }
 
-pub such-1 : Such 2 2 1 (senderSlots (fresh 2 2) sends) (receiverSlots (listening 2 2) calls) 1
+pub light-slot-1 : LightSlot 2 2 1 (senderSlots (fresh 2 2) sends) (receiverSlots (listening 2 2) calls) 1
     (record { message = 0 ∷ 0 ∷ 1 ∷ []; word = 1 ∷ 1 ∷ 0 ∷ 0 ∷ [] }) (0 ∷ 0 ∷ 1 ∷ 1 ∷ [])
 unfolding wordOf
-such-1 = record { sent = ap (λ l. getElem? l 1) sent-slots; received = ap (λ l. wordOf (getElem? l 1)) received-slots; light = omega (arith, none-altered .1) }
+light-slot-1 = record { sent = ap (λ l. getElem? l 1) sent-slots; received = ap (λ l. wordOf (getElem? l 1)) received-slots; light = omega (arith, none-altered .1) }

@@ -32,7 +32,7 @@ use Rattle.session_receiver.proofs.DeliveryLaws.{delivery-told}
 use Rattle.session_receiver.proofs.SoundLaws.{receiver-opened, receiver-sound}
 use Rattle.session_sender.proofs.SoundLaws.{sender-opened, sender-sound}
 use Rattle.session_history_theory.specs.Calls.{Send, SenderSlot, senderCall, senderSlot, senderSlots, senderAfter, ReceiverCall, ReceiverSlot, read, doubtful, missed, receiverCall, receiverSlot, receiverSlots, receiverAfter}
-use Rattle.session_history_theory.specs.Whole.{wordOf, Such, Accepted, Unmeasured, first, afterMissed, afterDoubtful, AnswersDeliveries, ZonesAfterRead, WholeSessions}
+use Rattle.session_history_theory.specs.Whole.{wordOf, LightSlot, Accepted, NoReference, first, afterMissed, afterDoubtful, AnswersDeliveries, ZonesAfterRead, WholeSessions}
 use Rattle.session_history_theory.proofs.Run.{before, before-next, Chain, chain, chain-made, chain-before, chain-end}
 use Rattle.session_history_theory.proofs.SenderRun.{nextSender, SentBy, sender-step, SenderAt, sender-keep}
 use Rattle.session_history_theory.proofs.ReceiverRun.{referenceAfter, nextSlot, Heard, ReceivedBy, receiver-step, ReceiverAt, receiver-keep}
@@ -136,8 +136,12 @@ module _ (q m : ℕ) (alphabet : isAlphabet q ≡ true) (variables : isVariables
 
   fresh-at : SenderAt q m 0 (fresh q m)
   fresh-at =
-      let parts = record { alphabet = alphabet; variables = variables; last = alphabet-positive q alphabet; used = omega arith; start = refl } in
-      record { isQ = refl; isM = refl; used = refl; sound = sender-sound _ parts }
+      record {
+        isQ = refl;
+        isM = refl;
+        used = refl;
+        sound = sender-sound _ (record { alphabet = alphabet; variables = variables; last = alphabet-positive q alphabet; used = omega arith; start = refl });
+      }
 
   sender-at : (j : ℕ) (x : SenderSlot) → getElem? strap j ≡ some x → SenderAt q m j (senderBefore j)
   sender-at j x e = rw zero-add at (chain-before senderCall senderSlot nextSender SentBy (SenderAt q m) (sender-keep q m) 0 (fresh q m) strap _ strap-chain fresh-at j x e)
@@ -204,22 +208,22 @@ module _ (q m : ℕ) (alphabet : isAlphabet q ≡ true) (variables : isVariables
   unfolding referenceAfter zoneFrom
   zone-after i y message delivery e y′ message′ delivery′ e′ = launch-zone (suc i) y′ message′ delivery′ e′ _ (launch-reference i _ e)
 
-  unmeasured-zone : (j : ℕ) (y message : List ℕ) (delivery : Delivery) → Accepted launch j y message delivery → delivery .zone ≡ Unknown → Unmeasured launch j
-  unmeasured-zone zero y message delivery e u = first
-  unmeasured-zone (suc i) y message delivery e u = let (z, f) = earlier launch i _ e in go z f
+  no-reference-zone : (j : ℕ) (y message : List ℕ) (delivery : Delivery) → Accepted launch j y message delivery → delivery .zone ≡ Unknown → NoReference launch j
+  no-reference-zone zero y message delivery e u = first
+  no-reference-zone (suc i) y message delivery e u = let (z, f) = earlier launch i _ e in go z f
     where
-      go : (z : ReceiverSlot) → getElem? launch i ≡ some z → Unmeasured launch (suc i)
+      go : (z : ReceiverSlot) → getElem? launch i ≡ some z → NoReference launch (suc i)
       go (read y₀ message₀ values) f =
           let (delivery₀, g) = launch-answer i y₀ message₀ values f in
           absurd (Known≢Unknown _ (sym (zone-after i y₀ message₀ delivery₀ g y message delivery e) ∙ u))
       go (doubtful word) f = afterDoubtful i word f
       go missed f = afterMissed i f
 
-  zone-unmeasured : (j : ℕ) (y message : List ℕ) (delivery : Delivery) → Accepted launch j y message delivery → Unmeasured launch j → delivery .zone ≡ Unknown
+  zone-no-reference : (j : ℕ) (y message : List ℕ) (delivery : Delivery) → Accepted launch j y message delivery → NoReference launch j → delivery .zone ≡ Unknown
   unfolding referenceAfter zoneFrom before
-  zone-unmeasured j y message delivery e first = launch-zone 0 y message delivery e Missing refl
-  zone-unmeasured j y message delivery e (afterMissed i f) = launch-zone (suc i) y message delivery e Missing (launch-reference i _ f)
-  zone-unmeasured j y message delivery e (afterDoubtful i word f) = launch-zone (suc i) y message delivery e Missing (launch-reference i _ f)
+  zone-no-reference j y message delivery e first = launch-zone 0 y message delivery e Missing refl
+  zone-no-reference j y message delivery e (afterMissed i f) = launch-zone (suc i) y message delivery e Missing (launch-reference i _ f)
+  zone-no-reference j y message delivery e (afterDoubtful i word f) = launch-zone (suc i) y message delivery e Missing (launch-reference i _ f)
 
 module _ (q m t : ℕ) (alphabet : isAlphabet q ≡ true) (variables : isVariables m ≡ true) (sends : List Send) (calls : List ReceiverCall) where
   abbrev strap′ : List SenderSlot
@@ -232,13 +236,13 @@ module _ (q m t : ℕ) (alphabet : isAlphabet q ≡ true) (variables : isVariabl
   abbrev lastAt : ℕ → ℕ
   lastAt j = senderBefore q m alphabet variables sends j .last
 
-  module _ (j : ℕ) (x : SenderSlot) (y : List ℕ) (such : Such q m t strap′ launch′ j x y) where
-    such-sent : SentFrom q m (lastAt j) x
-    such-sent = strap-sent q m alphabet variables sends j x (such .sent)
+  module _ (j : ℕ) (x : SenderSlot) (y : List ℕ) (slot : LightSlot q m t strap′ launch′ j x y) where
+    light-slot-sent : SentFrom q m (lastAt j) x
+    light-slot-sent = strap-sent q m alphabet variables sends j x (slot .sent)
 
-    such-read : (message : List ℕ) × (delivery : Delivery) × Accepted launch′ j y message delivery
+    light-slot-read : (message : List ℕ) × (delivery : Delivery) × Accepted launch′ j y message delivery
     unfolding wordOf
-    such-read = go (getElem? launch′ j) refl (such .received)
+    light-slot-read = go (getElem? launch′ j) refl (slot .received)
       where
         go : (o : Option ReceiverSlot) → getElem? launch′ j ≡ o → wordOf o ≡ some y → (message : List ℕ) × (delivery : Delivery) × Accepted launch′ j y message delivery
         go none e w = absurd (Option·none-ne-some y w)
@@ -248,43 +252,43 @@ module _ (q m t : ℕ) (alphabet : isAlphabet q ≡ true) (variables : isVariabl
             (message, delivery, f)
         go (some (doubtful word)) e w =
             let no : isReadable q m y ≡ false = ap (isReadable q m) (sym (Option·some-injective word y w)) ∙ launch-doubtful q m alphabet variables calls j word e in
-            let yes : isReadable q m y ≡ true = light-readable q m t (alphabet-positive q alphabet) x (lastAt j) such-sent y (such .light) in
+            let yes : isReadable q m y ≡ true = light-readable q m t (alphabet-positive q alphabet) x (lastAt j) light-slot-sent y (slot .light) in
             absurd (true≢false (sym yes ∙ no))
         go (some missed) e w = absurd (Option·none-ne-some y w)
 
-    such-constant : receiveConstant q m y ≡ ((lastAt j + at (x .message) 0) % q + t) % q
+    light-slot-constant : receiveConstant q m y ≡ ((lastAt j + at (x .message) 0) % q + t) % q
     unfolding constant
-    such-constant = light-constant q m t (alphabet-positive q alphabet) x (lastAt j) such-sent y (such .light)
+    light-slot-constant = light-constant q m t (alphabet-positive q alphabet) x (lastAt j) light-slot-sent y (slot .light)
 
     module _ (message : List ℕ) (delivery : Delivery) (read : Accepted launch′ j y message delivery) where
-      such-wrong : delivery .wrong ≡ altered q m t (at (x .word)) (at y)
-      such-wrong =
+      light-slot-wrong : delivery .wrong ≡ altered q m t (at (x .word)) (at y)
+      light-slot-wrong =
           launch-read q m alphabet variables calls j y message delivery read .wrong
-          ∙ light-distance q m t (alphabet-positive q alphabet) x (lastAt j) such-sent y (such .light)
+          ∙ light-distance q m t (alphabet-positive q alphabet) x (lastAt j) light-slot-sent y (slot .light)
 
-      such-coefficient : (k : ℕ) → k < m → at message (suc k) ≡ at (x .message) (suc k)
-      such-coefficient k l =
+      light-slot-coefficient : (k : ℕ) → k < m → at message (suc k) ≡ at (x .message) (suc k)
+      light-slot-coefficient k l =
           ap (λ b. at b (suc k)) (launch-read q m alphabet variables calls j y message delivery read .message)
           ∙ getD-set-other (nearMessage q m y) 0 (suc k) _ 0 (λ e. omega (arith, e))
-          ∙ light-coefficient q m t (alphabet-positive q alphabet) x (lastAt j) such-sent y (such .light) k
+          ∙ light-coefficient q m t (alphabet-positive q alphabet) x (lastAt j) light-slot-sent y (slot .light) k
 
-  such-place : (i : ℕ) (x : SenderSlot) (y : List ℕ) → Such q m t strap′ launch′ i x y
-      → (x′ : SenderSlot) (y′ : List ℕ) → Such q m t strap′ launch′ (suc i) x′ y′ → (message : List ℕ) (delivery : Delivery) → Accepted launch′ (suc i) y′ message delivery
+  light-slot-place : (i : ℕ) (x : SenderSlot) (y : List ℕ) → LightSlot q m t strap′ launch′ i x y
+      → (x′ : SenderSlot) (y′ : List ℕ) → LightSlot q m t strap′ launch′ (suc i) x′ y′ → (message : List ℕ) (delivery : Delivery) → Accepted launch′ (suc i) y′ message delivery
       → at message 0 ≡ at (x′ .message) 0
   unfolding zoneSymbol
-  such-place i x y such x′ y′ such′ message delivery e =
-      let (message₀, delivery₀, e₀) = such-read i x y such in
+  light-slot-place i x y slot x′ y′ slot′ message delivery e =
+      let (message₀, delivery₀, e₀) = light-slot-read i x y slot in
       let h = alphabet-positive q alphabet in
       let d = at (x′ .message) 0 in
       let c = (lastAt i + at (x .message) 0) % q in
-      let f = such-sent (suc i) x′ y′ such′ in
+      let f = light-slot-sent (suc i) x′ y′ slot′ in
       let zone : delivery .zone ≡ Known (subMod q (receiveConstant q m y′) (receiveConstant q m y)) =
       zone-after q m alphabet variables calls i y message₀ delivery₀ e₀ y′ message delivery e in
       let new : receiveConstant q m y′ ≡ ((c + d) % q + t) % q =
-      such-constant (suc i) x′ y′ such′ ∙ ap (λ l. ((l + d) % q + t) % q) (strap-last q m alphabet variables sends i x (such .sent)) in
+      light-slot-constant (suc i) x′ y′ slot′ ∙ ap (λ l. ((l + d) % q + t) % q) (strap-last q m alphabet variables sends i x (slot .sent)) in
       read-place q m _ (suc i) y′ message delivery (launch-read q m alphabet variables calls (suc i) y′ message delivery e)
       ∙ ap zoneSymbol zone
-      ∙ ap₂ (subMod q) new (such-constant i x y such)
+      ∙ ap₂ (subMod q) new (light-slot-constant i x y slot)
       ∙ subMod-turned q c d t h (f .symbols .below 0 (omega arith))
 
   from-openings : WholeSessions q m t strap′ launch′ (senderAfter (fresh q m) sends) (receiverAfter (listening q m) calls)
@@ -292,11 +296,11 @@ module _ (q m t : ℕ) (alphabet : isAlphabet q ≡ true) (variables : isVariabl
       let s = sender-end q m alphabet variables sends in
       let r = receiver-end q m alphabet variables calls in
       record {
-        accepted = such-read;
-        wrong = such-wrong;
-        coefficients = such-coefficient;
-        place0 = such-place;
-        noZone = λ j y message delivery e. (unmeasured-zone q m alphabet variables calls j y message delivery e, zone-unmeasured q m alphabet variables calls j y message delivery e);
+        accepted = light-slot-read;
+        wrong = light-slot-wrong;
+        coefficients = light-slot-coefficient;
+        place0 = light-slot-place;
+        noZone = λ j y message delivery e. (no-reference-zone q m alphabet variables calls j y message delivery e, zone-no-reference q m alphabet variables calls j y message delivery e);
         zone = zone-after q m alphabet variables calls;
         zonePlace = λ j y message delivery e. read-place q m _ j y message delivery (launch-read q m alphabet variables calls j y message delivery e);
         answers = launch-answer q m alphabet variables calls;

@@ -28,8 +28,8 @@ wordOf (some missed) = none
 
 -- "The claim covers each j that both lists have. .. A received word's altered symbols are the places where it differs from the
 -- symbol that slot's send wrote there plus t, modulo q; the claim is for 4 × altered < n."
--- Slot j of the strap is x, and slot j of the launch received such a word y.
-pub record Such (q m t : ℕ) (strap : List SenderSlot) (launch : List ReceiverSlot) (j : ℕ) (x : SenderSlot) (y : List ℕ) : Type 0 where
+-- Slot j of the strap is x, and slot j of the launch received the word y with so few altered symbols.
+pub record LightSlot (q m t : ℕ) (strap : List SenderSlot) (launch : List ReceiverSlot) (j : ℕ) (x : SenderSlot) (y : List ℕ) : Type 0 where
   pub sent : getElem? strap j ≡ some x
   pub received : wordOf (getElem? launch j) ≡ some y
   pub light : 4 * altered q m t (at (x .word)) (at y) < 2 ^ m
@@ -40,10 +40,10 @@ abbrev pub Accepted : List ReceiverSlot → ℕ → List ℕ → List ℕ → De
 Accepted launch j y message delivery = getElem? launch j ≡ some (read y message (deliveryValues delivery))
 
 -- "j is 0 or slot j − 1 was missed or doubtful"
-pub data Unmeasured (launch : List ReceiverSlot) : ℕ → Type 0 where
-  first : Unmeasured launch 0
-  afterMissed : (i : ℕ) → getElem? launch i ≡ some missed → Unmeasured launch (suc i)
-  afterDoubtful : (i : ℕ) (word : List ℕ) → getElem? launch i ≡ some (doubtful word) → Unmeasured launch (suc i)
+pub data NoReference (launch : List ReceiverSlot) : ℕ → Type 0 where
+  first : NoReference launch 0
+  afterMissed : (i : ℕ) → getElem? launch i ≡ some missed → NoReference launch (suc i)
+  afterDoubtful : (i : ℕ) (word : List ℕ) → getElem? launch i ≡ some (doubtful word) → NoReference launch (suc i)
 
 -- Whatever a slot read answered are the values of a delivery.
 abbrev pub AnswersDeliveries : List ReceiverSlot → Type 0
@@ -60,19 +60,19 @@ ZonesAfterRead q m launch =
 -- The slots of the strap and of the launch, under the turn t, and the sessions that the two lists end in.
 pub record WholeSessions (q m t : ℕ) (strap : List SenderSlot) (launch : List ReceiverSlot) (sender : Sender) (receiver : Receiver) : Type 0 where
   -- "Such a receive is accepted,
-  pub accepted : (j : ℕ) (x : SenderSlot) (y : List ℕ) → Such q m t strap launch j x y → (message : List ℕ) × (delivery : Delivery) × Accepted launch j y message delivery
+  pub accepted : (j : ℕ) (x : SenderSlot) (y : List ℕ) → LightSlot q m t strap launch j x y → (message : List ℕ) × (delivery : Delivery) × Accepted launch j y message delivery
   -- wrong equals altered,
-  pub wrong : (j : ℕ) (x : SenderSlot) (y : List ℕ) → Such q m t strap launch j x y → (message : List ℕ) (delivery : Delivery) → Accepted launch j y message delivery
+  pub wrong : (j : ℕ) (x : SenderSlot) (y : List ℕ) → LightSlot q m t strap launch j x y → (message : List ℕ) (delivery : Delivery) → Accepted launch j y message delivery
       → delivery .wrong ≡ altered q m t (at (x .word)) (at y)
   -- and places 1 to m of the message buffer equal the sent message's,
-  pub coefficients : (j : ℕ) (x : SenderSlot) (y : List ℕ) → Such q m t strap launch j x y → (message : List ℕ) (delivery : Delivery) → Accepted launch j y message delivery
+  pub coefficients : (j : ℕ) (x : SenderSlot) (y : List ℕ) → LightSlot q m t strap launch j x y → (message : List ℕ) (delivery : Delivery) → Accepted launch j y message delivery
       → (k : ℕ) → k < m → at message (suc k) ≡ at (x .message) (suc k)
   -- and place 0 too where slot j − 1 was also such a word."
-  pub place0 : (i : ℕ) (x : SenderSlot) (y : List ℕ) → Such q m t strap launch i x y
-      → (x′ : SenderSlot) (y′ : List ℕ) → Such q m t strap launch (suc i) x′ y′ → (message : List ℕ) (delivery : Delivery) → Accepted launch (suc i) y′ message delivery
+  pub place0 : (i : ℕ) (x : SenderSlot) (y : List ℕ) → LightSlot q m t strap launch i x y
+      → (x′ : SenderSlot) (y′ : List ℕ) → LightSlot q m t strap launch (suc i) x′ y′ → (message : List ℕ) (delivery : Delivery) → Accepted launch (suc i) y′ message delivery
       → at message 0 ≡ at (x′ .message) 0
   -- "An accepted receive says there is no zone exactly where j is 0 or slot j − 1 was missed or doubtful;
-  pub noZone : (j : ℕ) (y message : List ℕ) (delivery : Delivery) → Accepted launch j y message delivery → (delivery .zone ≡ Unknown) ↔ Unmeasured launch j
+  pub noZone : (j : ℕ) (y message : List ℕ) (delivery : Delivery) → Accepted launch j y message delivery → (delivery .zone ≡ Unknown) ↔ NoReference launch j
   -- after a slot read in spite of heavier damage, the zone is the one that Receiving gives."
   -- After every slot read, however damaged:
   pub zone : ZonesAfterRead q m launch

@@ -41,12 +41,12 @@ module _ (z : Complex Float) (x y : Float) (t : Bool) (X : x ≡ magnitude f32 (
   unfolding decide decideBy symbolOf
   by-test u e =
       ap (λ v. cond v (sure (symbolOf u) z) (unsure z)) (T ∙ ap (λ v. isClear f32 (cond v y x) (cond v x y)) e)
-      ∙ variables u
+      ∙ ordered u
       ∙ ap (λ v. cond v (decideBy f32 (z .im) (z .re) 1 3 z) (decideBy f32 (z .re) (z .im) 0 2 z)) (sym e ∙ ap₂ lt X Y)
     where
-      variables : (u : Bool) → cond (isClear f32 (cond u y x) (cond u x y)) (sure (symbolOf u) z) (unsure z) ≡ cond u (decideBy f32 (z .im) (z .re) 1 3 z) (decideBy f32 (z .re) (z .im) 0 2 z)
-      variables true = ap₂ (λ a b. cond (isClear f32 a b) (sure (symbolOf true) z) (unsure z)) Y X
-      variables false = ap₂ (λ a b. cond (isClear f32 a b) (sure (symbolOf false) z) (unsure z)) X Y
+      ordered : (u : Bool) → cond (isClear f32 (cond u y x) (cond u x y)) (sure (symbolOf u) z) (unsure z) ≡ cond u (decideBy f32 (z .im) (z .re) 1 3 z) (decideBy f32 (z .re) (z .im) 0 2 z)
+      ordered true = ap₂ (λ a b. cond (isClear f32 a b) (sure (symbolOf true) z) (unsure z)) Y X
+      ordered false = ap₂ (λ a b. cond (isClear f32 a b) (sure (symbolOf false) z) (unsure z)) X Y
 
   pub by-unsure : not t ≡ true → unsure z ≡ decide f32 z
   by-unsure e = ap (λ v. cond v (sure (symbolOf (lt x y)) z) (unsure z)) (sym (not-true t e)) ∙ by-test (lt x y) refl
