@@ -4,7 +4,7 @@ ghost use mathlib.Core.Path.{_≡_};
 ghost use mathlib.Core.Bool.{cond};
 ghost use lib.Ieee.{lt};
 ghost use Rattle.soft_theory.specs.Numbers.{f32};
-ghost use Rattle.soft_theory.specs.Decision.{magnitude, isClear, decide, isSure, symbol};
+ghost use Rattle.soft_theory.specs.Decision.{magnitude, isDecisive, decide, isSure, symbol};
 ghost use Rattle.soft_vote_sums.specs.Pair.{pair};
 ghost use Rattle.soft_decision.specs.Voted.{voted};
 
@@ -16,7 +16,7 @@ pub enum SoftVote {
 }
 
 // How far x is from 0; -0 stays, and no comparison tells it from +0.
-fn size_of(x: f32) -> f32
+fn magnitude(x: f32) -> f32
     ensures { λ r. ⌜ r ≡ magnitude f32 x ⌝ }
 {
     if x < 0.0 { -x } else { x }
@@ -38,8 +38,8 @@ fn smaller(a: f32, b: f32) -> f32
 
 // Whether the magnitudes a and b are sure. The smaller one is worked out only after the first test, so that the compiler takes both from
 // the processor's own minimum and maximum.
-fn is_clear(a: f32, b: f32) -> bool
-    ensures { λ r. ⌜ r ≡ isClear f32 (cond (lt a b) b a) (cond (lt a b) a b) ⌝ }
+fn is_decisive(a: f32, b: f32) -> bool
+    ensures { λ r. ⌜ r ≡ isDecisive f32 (cond (lt a b) b a) (cond (lt a b) a b) ⌝ }
 {
     let l = larger(a, b);
     l > 0.0 && 3.0 * smaller(a, b) <= 2.0 * l
@@ -64,9 +64,9 @@ fn pick(test: bool, a: u8, b: u8) -> u8
 pub fn decision(s: Sums) -> SoftVote
     ensures { λ r. ⌜ voted r ≡ decide f32 (pair s) ⌝ }
 {
-    let a = size_of(s.re);
-    let b = size_of(s.im);
-    if !is_clear(a, b) {
+    let a = magnitude(s.re);
+    let b = magnitude(s.im);
+    if !is_decisive(a, b) {
         return SoftVote::Unsure(s);
     }
     let real = by_sign(s.re, 0, 2);

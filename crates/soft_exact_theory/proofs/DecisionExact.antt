@@ -7,7 +7,7 @@ use lib.IntN.{ℤ, pos, negℤ, _*ℤ_, natAbs}
 use lib.Ieee.{Float}
 use Rattle.soft_theory.specs.Numbers.{f32, integers}
 use Rattle.soft_theory.specs.Complex.{Complex}
-use Rattle.soft_theory.specs.Decision.{Decision, sure, unsure, refused, magnitude, isClear, decideBy, decide, isSure, symbol}
+use Rattle.soft_theory.specs.Decision.{Decision, sure, unsure, refused, magnitude, isDecisive, decideBy, decide, isSure, symbol}
 use Rattle.soft_exact_theory.specs.Whole.{Whole, WholeParts, Within, Same}
 use Rattle.soft_exact_theory.proofs.Integers.{abs-neg, abs-mul}
 use Rattle.soft_exact_theory.proofs.WholeLaws.{whole-mul, whole-neg, whole-number, whole-lt, whole-le}
@@ -30,8 +30,8 @@ magnitude-abs a = go (integers .lt a (pos 0))
 
 -- three times the sums stays below 2 ^ 24
 module _ (l s : Float) (a b : ℤ) (L : Whole l a) (S : Whole s b) (h : 3 * natAbs a ≤ 16777216) (k : 3 * natAbs b ≤ 16777216) where
-  clear-whole : isClear f32 l s ≡ isClear integers a b
-  unfolding isClear
+  clear-whole : isDecisive f32 l s ≡ isDecisive integers a b
+  unfolding isDecisive
   clear-whole = ap₂ _&&_ (whole-lt (f32 .number 0) l (pos 0) a (whole-number 0 (omega arith)) L)
       (whole-le _ _ (pos 3 *ℤ b) (pos 2 *ℤ a)
       (whole-mul (f32 .number 3) s (pos 3) b (whole-number 3 (omega arith)) S (omega (arith, abs-mul (pos 3) b)))
@@ -46,7 +46,7 @@ module _ (x : Complex Float) (z : Complex ℤ) (w : WholeParts x z) (B : ℕ) (h
             (omega (arith, magnitude-abs a)) (omega (arith, magnitude-abs b)),
         whole-lt (f32 .number 0) l (pos 0) a (whole-number 0 (omega arith)) L,
       )
-      (go (isClear integers (magnitude integers a) (magnitude integers b)) (integers .lt (pos 0) a))
+      (go (isDecisive integers (magnitude integers a) (magnitude integers b)) (integers .lt (pos 0) a))
     where
       go : (t u : Bool) → Same (cond t (sure (cond u p n) x) (unsure x)) (cond t (sure (cond u p n) z) (unsure z))
       go true u = (refl, w)

@@ -11,7 +11,7 @@ use lib.Signed.{ltZ}
 use Rattle.code_theory.proofs.QuestionLaws.{and-true}
 use Rattle.soft_theory.specs.Numbers.{integers}
 use Rattle.soft_theory.specs.Complex.{Complex, plus, stepIfClear, upward, sums}
-use Rattle.soft_theory.specs.Decision.{sure, magnitude, isClear, decideBy, decide}
+use Rattle.soft_theory.specs.Decision.{sure, magnitude, isDecisive, decideBy, decide}
 use Rattle.soft_exact_theory.proofs.Integers.{above, below, abs-add}
 
 -- how far z goes in the direction of the symbol d, 0 where it goes back, and how far it is off to either side
@@ -87,7 +87,7 @@ magnitude-is (negsuc n) = refl
 
 -- by the sum l of the larger magnitude, where it is clear
 by-sure : (l s : ℤ) (a b : ℕ) (z : Complex ℤ) (u : Bool) → 0 < natAbs l → 3 * natAbs s ≤ 2 * natAbs l → ltZ (pos 0) l ≡ u → decideBy integers l s a b z ≡ sure (cond u a b) z
-unfolding decideBy isClear
+unfolding decideBy isDecisive
 by-sure l s a b z u h k e = rw (magnitude-is l, magnitude-is s, lt-ltb 0 (natAbs l) h, le-leb (3 * natAbs s) (2 * natAbs l) k, e)
 
 by-re : (z : Complex ℤ) (u : Bool) → 0 < natAbs (z .re) → 3 * natAbs (z .im) ≤ 2 * natAbs (z .re) → ltZ (pos 0) (z .re) ≡ u → decide integers z ≡ sure (cond u 0 2) z

@@ -7,7 +7,7 @@ use Rattle.code_theory.specs.Sum.{every}
 use Rattle.code_theory.proofs.CodeLaws.{linear-ext}
 use Rattle.soft_theory.specs.Numbers.{Numbers}
 use Rattle.soft_theory.specs.Complex.{Complex, turnBack}
-use Rattle.soft_theory.specs.Decision.{sure, unsure, magnitude, isClear, decideBy, decide, isSure, symbol}
+use Rattle.soft_theory.specs.Decision.{sure, unsure, magnitude, isDecisive, decideBy, decide, isSure, symbol}
 use Rattle.soft_theory.specs.Soft.{voteSums, coefficient, constantSums, decision, allSure}
 use Rattle.soft_theory.proofs.SumsLaws.{sums-ext}
 
@@ -29,7 +29,7 @@ module _ {A : Type 0} (N : Numbers A) where
   -- a decided symbol is one of the four
   pub symbol-lt : (z : Complex A) → symbol (decide N z) < 4
   unfolding decide decideBy symbol
-  symbol-lt z = go (N .lt (magnitude N (z .re)) (magnitude N (z .im))) (isClear N (magnitude N (z .im)) (magnitude N (z .re))) (isClear N (magnitude N (z .re)) (magnitude N (z .im)))
+  symbol-lt z = go (N .lt (magnitude N (z .re)) (magnitude N (z .im))) (isDecisive N (magnitude N (z .im)) (magnitude N (z .re))) (isDecisive N (magnitude N (z .re)) (magnitude N (z .im)))
       (N .lt (N .number 0) (z .im)) (N .lt (N .number 0) (z .re))
     where
       go : (a b c d e : Bool) → symbol (cond a (cond b (sure (cond d 1 3) z) (unsure z)) (cond c (sure (cond e 0 2) z) (unsure z))) < 4

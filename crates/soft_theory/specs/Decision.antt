@@ -14,12 +14,12 @@ unfoldable pub magnitude : {A : Type 0} → Numbers A → A → A
 magnitude N x = cond (N .lt x (N .number 0)) (N .neg x) x
 
 -- whether a larger magnitude l and a smaller one s are sure: l > 0 and 3 s at most 2 l
-unfoldable pub isClear : {A : Type 0} → Numbers A → A → A → Bool
-isClear N l s = N .lt (N .number 0) l && N .le (N .mul (N .number 3) s) (N .mul (N .number 2) l)
+unfoldable pub isDecisive : {A : Type 0} → Numbers A → A → A → Bool
+isDecisive N l s = N .lt (N .number 0) l && N .le (N .mul (N .number 3) s) (N .mul (N .number 2) l)
 
 -- by the sum l of the larger magnitude, with a for a positive one and b for a negative one
 unfoldable pub decideBy : {A : Type 0} → Numbers A → A → A → ℕ → ℕ → Complex A → Decision A
-decideBy N l s a b z = cond (isClear N (magnitude N l) (magnitude N s)) (sure (cond (N .lt (N .number 0) l) a b) z) (unsure z)
+decideBy N l s a b z = cond (isDecisive N (magnitude N l) (magnitude N s)) (sure (cond (N .lt (N .number 0) l) a b) z) (unsure z)
 
 -- the decision by the sums z
 unfoldable pub decide : {A : Type 0} → Numbers A → Complex A → Decision A
