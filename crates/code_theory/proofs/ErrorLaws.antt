@@ -72,7 +72,7 @@ sub-shift q a b c t h =
     let g : (z + e) % q ≡ subMod q a ((c + t) % q) = sym (subMod-mod q a (c + t) ∙ subMod-is q a (c + t) ((z + e) % q) h (mod-lt (z + e) {m = q} h) f) in
     subMod-is q _ e z h (subMod-lt q _ t h) (g ∙ sym (mod-eq-of-lt (subMod-lt q a ((c + t) % q) h)))
 
--- the errors cast what the word casts, less the coefficient
+-- the errors give what the word gives, less the coefficient
 error-vote : (q m k : ℕ) (s y : ℕ → ℕ) (i : ℕ) → 0 < q → k < m → bit k i ≡ 0 → vote q k (error q m s y) i ≡ subMod q (vote q k y i) (s (suc k))
 unfolding vote error symbolAt
 error-vote q m k s y i hq hk z =
@@ -214,14 +214,14 @@ same-once (suc q) x l = go (λ h. same-once q x h) (eq-or-lt-of-le (le-of-suc-le
     go ih (inl e) = omega (arith, same-none q x (omega (arith, e)), same-eq x q e)
     go ih (inr h) = omega (arith, ih h, same-ne x q (λ e. absurd (omega (arith, e))))
 
--- ALL VOTES: each open place casts one value below q, so the votes for all values are the open places
-pub count-total : (n q : ℕ) (closed cast : ℕ → ℕ) → ((i : ℕ) → i < n → cast i < q) → sum q (count n closed cast) ≡ sum n (λ i. ifClear (closed i) 1)
+-- ALL VOTES: each open place gives one value below q, so the votes for all values are the open places
+pub count-total : (n q : ℕ) (closed given : ℕ → ℕ) → ((i : ℕ) → i < n → given i < q) → sum q (count n closed given) ≡ sum n (λ i. ifClear (closed i) 1)
 unfolding count ifClear
-count-total n q closed cast h =
-    sum-swap q n (λ v i. ifClear (closed i) (same (cast i) v)) ∙ sum-ext n _ _ (λ i l. go i (h i l) (closed i))
+count-total n q closed given h =
+    sum-swap q n (λ v i. ifClear (closed i) (same (given i) v)) ∙ sum-ext n _ _ (λ i l. go i (h i l) (closed i))
   where
-    go : (i : ℕ) → cast i < q → (b : ℕ) → sum q (λ v. ifClear b (same (cast i) v)) ≡ ifClear b 1
-    go i l zero = same-once q (cast i) l
+    go : (i : ℕ) → given i < q → (b : ℕ) → sum q (λ v. ifClear b (same (given i) v)) ≡ ifClear b 1
+    go i l zero = same-once q (given i) l
     go i l (suc b) = sum-const q 0 ∙ omega arith
 
 -- the votes for 0 and for the values from 1 to q - 1 are half of the places
@@ -273,7 +273,7 @@ term-le (suc n) f i l = go (λ h. term-le n f i h) (eq-or-lt-of-le (le-of-suc-le
     go ih (inl e) = omega (arith, ap f e)
     go ih (inr h) = omega (arith, ih h)
 
--- a pair with one error casts no 0
+-- a pair with one error gives no 0
 one-bad : (q a b : ℕ) → 0 < q → a < q → b < q → differ 0 b + differ 0 a ≤ 1 → same (subMod q a b) 0 + (differ 0 b + differ 0 a) ≤ 1
 one-bad q a b h la lb l = go (ℕ-discrete (subMod q a b) 0)
   where

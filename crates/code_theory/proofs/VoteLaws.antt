@@ -16,31 +16,31 @@ use Rattle.code_theory.proofs.IndexLaws.{pairing, half-clear, partner-l
 use Rattle.code_theory.proofs.ModularLaws.{same-eq, same-ne, same-le, differ-eq, differ-ne, subMod-add, subMod-mod, add-subMod}
 use Rattle.code_theory.proofs.CodeLaws.{linear-partner, linear-ext}
 
--- ANY VOTE: each open place casts the right value, or something is bad there
-module _ (n : ℕ) (closed cast bad : ℕ → ℕ) (right : ℕ) (cases : (i : ℕ) → closed i ≡ 0 → (1 ≤ bad i) ⊎ (cast i ≡ right)) where
-  own-place : (i : ℕ) → ifClear (closed i) 1 ≤ ifClear (closed i) (same (cast i) right) + ifClear (closed i) (bad i)
+-- ANY VOTE: each open place gives the right value, or something is bad there
+module _ (n : ℕ) (closed given bad : ℕ → ℕ) (right : ℕ) (cases : (i : ℕ) → closed i ≡ 0 → (1 ≤ bad i) ⊎ (given i ≡ right)) where
+  own-place : (i : ℕ) → ifClear (closed i) 1 ≤ ifClear (closed i) (same (given i) right) + ifClear (closed i) (bad i)
   unfolding ifClear
   own-place i = go (closed i) refl
     where
-      go : (b : ℕ) → closed i ≡ b → ifClear b 1 ≤ ifClear b (same (cast i) right) + ifClear b (bad i)
+      go : (b : ℕ) → closed i ≡ b → ifClear b 1 ≤ ifClear b (same (given i) right) + ifClear b (bad i)
       go zero z = ⊎-elim (λ d. omega arith) (λ e. omega (arith, same-eq _ _ e)) (cases i z)
       go (suc b) z = omega arith
 
-  other-place : (v : ℕ) → v ≢ right → (i : ℕ) → ifClear (closed i) (same (cast i) v) ≤ ifClear (closed i) (bad i)
+  other-place : (v : ℕ) → v ≢ right → (i : ℕ) → ifClear (closed i) (same (given i) v) ≤ ifClear (closed i) (bad i)
   unfolding ifClear
   other-place v d i = go (closed i) refl
     where
-      go : (b : ℕ) → closed i ≡ b → ifClear b (same (cast i) v) ≤ ifClear b (bad i)
-      go zero z = ⊎-elim (λ h. omega (arith, same-le (cast i) v)) (λ e. omega (arith, same-ne (cast i) v (λ x. d (sym x ∙ e)))) (cases i z)
+      go : (b : ℕ) → closed i ≡ b → ifClear b (same (given i) v) ≤ ifClear b (bad i)
+      go zero z = ⊎-elim (λ h. omega (arith, same-le (given i) v)) (λ e. omega (arith, same-ne (given i) v (λ x. d (sym x ∙ e)))) (cases i z)
       go (suc b) z = omega arith
 
   -- the votes for the right value are at least the open places less the bad ones
-  pub count-own : sum n (λ i. ifClear (closed i) 1) ≤ count n closed cast right + sum n (λ i. ifClear (closed i) (bad i))
+  pub count-own : sum n (λ i. ifClear (closed i) 1) ≤ count n closed given right + sum n (λ i. ifClear (closed i) (bad i))
   unfolding count
-  count-own = omega (arith, sum-le n _ _ (λ i l. own-place i), sum-add n (λ i. ifClear (closed i) (same (cast i) right)) (λ i. ifClear (closed i) (bad i)))
+  count-own = omega (arith, sum-le n _ _ (λ i l. own-place i), sum-add n (λ i. ifClear (closed i) (same (given i) right)) (λ i. ifClear (closed i) (bad i)))
 
   -- those for another value at most the bad ones
-  pub count-other : (v : ℕ) → v ≢ right → count n closed cast v ≤ sum n (λ i. ifClear (closed i) (bad i))
+  pub count-other : (v : ℕ) → v ≢ right → count n closed given v ≤ sum n (λ i. ifClear (closed i) (bad i))
   unfolding count
   count-other v d = sum-le n _ _ (λ i l. other-place v d i)
 
@@ -53,7 +53,7 @@ pub right-residue : (q m : ℕ) (s y : ℕ → ℕ) (i : ℕ) → 0 < q → y i 
 unfolding residue symbolAt
 right-residue q m s y i hq hy e = rw (← e, add-subMod, mod-eq-of-lt hy)
 
--- an undamaged pair casts the coefficient
+-- an undamaged pair gives the coefficient
 pub vote-right : (q m k : ℕ) (s : ℕ → ℕ) (i : ℕ) → 0 < q → k < m → s (suc k) < q → bit k i ≡ 0 → vote q k (symbolAt q m s) i ≡ s (suc k)
 unfolding vote symbolAt
 vote-right q m k s i hq hk hs z =
@@ -111,9 +111,9 @@ module _ (q m : ℕ) (s y : ℕ → ℕ) (hq : 0 < q) where
       go i l (yes e) = omega (arith, differ-eq _ _ e, same-eq _ _ (residue-right q m s y i hq hs e))
       go i l (no d) = omega (arith, differ-ne _ _ d, same-ne (residue q m s y i) (s 0) (λ e. d (right-residue q m s y i hq l e)))
 
-pub count-ext : (n : ℕ) (closed cast cast′ : ℕ → ℕ) → ((i : ℕ) → i < n → cast i ≡ cast′ i) → (v : ℕ) → count n closed cast v ≡ count n closed cast′ v
+pub count-ext : (n : ℕ) (closed given given′ : ℕ → ℕ) → ((i : ℕ) → i < n → given i ≡ given′ i) → (v : ℕ) → count n closed given v ≡ count n closed given′ v
 unfolding count
-count-ext n closed cast cast′ h v = sum-ext n _ _ (λ i l. ap (λ x. ifClear (closed i) (same x v)) (h i l))
+count-ext n closed given given′ h v = sum-ext n _ _ (λ i l. ap (λ x. ifClear (closed i) (same x v)) (h i l))
 
 -- the votes for a coefficient depend only on the 2 ^ m places of the word
 pub votes-ext : (q m k : ℕ) (x y : ℕ → ℕ) → k < m → ((i : ℕ) → i < 2 ^ m → x i ≡ y i) → (v : ℕ) → votes q m k x v ≡ votes q m k y v

@@ -5,11 +5,11 @@ use Rattle.code_theory.specs.Index.{bit, ifClear}
 use Rattle.code_theory.specs.Modular.{subMod, same}
 use Rattle.code_theory.specs.Code.{linear}
 
--- how many of the votes cast 0 to cast (n - 1) are for v, those of the places that are not closed
+-- how many of the votes given 0 to given (n - 1) are for v, those of the places that are not closed
 unfoldable pub count : ℕ → (ℕ → ℕ) → (ℕ → ℕ) → ℕ → ℕ
-count n closed cast v = sum n (λ i. ifClear (closed i) (same (cast i) v))
+count n closed given v = sum n (λ i. ifClear (closed i) (same (given i) v))
 
--- the vote for coefficient k that place i casts, where its bit k is 0
+-- the vote for coefficient k that place i gives, where its bit k is 0
 unfoldable pub vote : ℕ → ℕ → (ℕ → ℕ) → ℕ → ℕ
 vote q k y i = subMod q (y (i + 2 ^ k)) (y i)
 
@@ -21,7 +21,7 @@ votes q m k y = count (2 ^ m) (bit k) (vote q k y)
 unfoldable pub residue : ℕ → ℕ → (ℕ → ℕ) → (ℕ → ℕ) → ℕ → ℕ
 residue q m s y i = subMod q (y i) (linear m (λ k. s (suc k)) i)
 
--- the votes of the word y for the constant: every place casts what is left there
+-- the votes of the word y for the constant: every place gives what is left there
 unfoldable pub residues : ℕ → ℕ → (ℕ → ℕ) → (ℕ → ℕ) → ℕ → ℕ
 residues q m s y = count (2 ^ m) (λ i. 0) (residue q m s y)
 
