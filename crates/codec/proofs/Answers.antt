@@ -14,7 +14,7 @@ use Rattle.code_theory.proofs.MarginLaws.{least-le}
 use Rattle.code_theory.proofs.ErrorLaws.{votes-le-half}
 use Rattle.code_theory.proofs.QuestionLaws.{answer-accepted, answer-refused}
 use Rattle.codec.specs.Codec.{encodeRefusal, encodeAnswer, encoded, decodeRefusal, decodeAnswer, decoded}
-use Rattle.codec.specs.declared.Reading.{Reading}
+use Rattle.decode_reading.specs.declared.Reading.{Reading}
 use Rattle.codec.specs.declared.Encoded.{Encoded}
 use Rattle.codec.specs.declared.Encoded.the-variants as E
 use Rattle.codec.specs.declared.Decoded.{Decoded}

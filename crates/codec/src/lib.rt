@@ -2,17 +2,14 @@
 ghost use mathlib.Core.Path.{_≡_};
 ghost use Rattle.codec.specs.Codec.{encodeAnswer, encodeWord, encoded, decodeAnswer, decodeMessage, decoded};
 ghost use Rattle.codec.specs.Asked.{sizeRefusal, wordRefusal};
+use decode_reading::Outcome;
+// How a word was read.
+pub use decode_reading::Reading;
 
 // What encode answers.
 pub enum Encoded {
     Written,
     Refused(u32),
-}
-
-// How a word was read: the places where it differs from the message's word, and the least lead of the message's symbols.
-pub struct Reading {
-    pub wrong: u32,
-    pub margin: u32,
 }
 
 // What decode answers.
@@ -75,12 +72,8 @@ pub fn decode(q: u32, m: u32, message: &mut [u8], word: &[u8]) -> Decoded
     if number != 0 {
         return Decoded::Refused(number);
     }
-    let r = decode_by_length::read(q, m, message, word);
-    if 4 * r.wrong >= word.len() as u32 {
-        return Decoded::Refused(9);
+    match decode_by_length::read(q, m, message, word) {
+        Outcome::Read(reading) => Decoded::Read(reading),
+        Outcome::Doubtful => Decoded::Refused(9),
     }
-    Decoded::Read(Reading {
-        wrong: r.wrong,
-        margin: r.margin,
-    })
 }

@@ -11,10 +11,11 @@ ghost use Rattle.code_theory.specs.Word.{WellFormed};
 ghost use Rattle.decode_long_tally.specs.Digits.{Tallied};
 ghost use Rattle.swar_lanes.specs.Lane.{Within, Packed};
 ghost use Rattle.decode_long_tally.specs.Pairs.{Pairs};
-ghost use Rattle.decode_short.specs.Settled.{Settled};
+ghost use Rattle.decode_reading.specs.Settled.{Settled};
 ghost use Rattle.decode_long.specs.Winning.{FirstWinnersOf, Empty, LongCode, LongConstant, Winning};
 use decode_long_winner::Winner;
-use decode_short::Outcome;
+use decode_reading::Outcome;
+use decode_reading::Reading;
 
 // Puts the winners of the coefficients into the message and returns their least lead.
 fn coefficients(q: u32, m: u32, t: &[u64; 8], message: &mut [u8; 9]) -> u32
@@ -31,12 +32,12 @@ fn coefficients(q: u32, m: u32, t: &[u64; 8], message: &mut [u8; 9]) -> u32
 }
 
 // Puts the constant's winner into place 0 of the message.
-fn set_constant(n: u32, least: u32, r: Winner, message: &mut [u8; 9]) -> Outcome
+fn set_constant(n: u32, least: u32, r: Winner, message: &mut [u8; 9]) -> Reading
     requires { ⌜ (r .symbol < 256) × (r .votes ≤ n) × (r .next ≤ r .votes) × (length (now message) ≡ 9) ⌝ }
     ensures { λ s. ⌜ (now (message .exit) ≡ set (now (message .entry)) 0 (r .symbol)) × (s .wrong ≡ n - r .votes) × (s .margin ≡ min least (r .votes - r .next)) ⌝ }
 {
     message[0] = r.symbol as u8;
-    Outcome {
+    Reading {
         wrong: n - r.votes,
         margin: code_arith::lower(least, r.votes - r.next),
     }
@@ -78,7 +79,7 @@ fn long_constant(
 }
 
 // The winners of a long word.
-fn winners_long(q: u32, m: u32, units: &[u64; 8], word: &[u8], message: &mut [u8; 9]) -> Outcome
+fn winners_long(q: u32, m: u32, units: &[u64; 8], word: &[u8], message: &mut [u8; 9]) -> Reading
     requires { ⌜ WellFormed q m (now word) × Units (now units) × (5 ≤ m) × (length (now message) ≡ 9) ⌝ }
     ensures { λ r. ⌜ Winning q m (now (word .entry)) (now (message .exit)) (r .wrong) (r .margin) ⌝ }
 {
@@ -97,7 +98,7 @@ fn winners_long(q: u32, m: u32, units: &[u64; 8], word: &[u8], message: &mut [u8
 }
 
 // Puts the winners of all votes of a long word into the message: the only message that can be near it.
-fn winners(q: u32, m: u32, word: &[u8], message: &mut [u8; 9]) -> Outcome
+fn winners(q: u32, m: u32, word: &[u8], message: &mut [u8; 9]) -> Reading
     requires { ⌜ WellFormed q m (now word) × (5 ≤ m) × (length (now message) ≡ 9) ⌝ }
     ensures { λ r. ⌜ Winning q m (now (word .entry)) (now (message .exit)) (r .wrong) (r .margin) ⌝ }
 {
@@ -127,13 +128,13 @@ fn copy(found: &[u8; 9], message: &mut [u8])
 // Reads a word of 32 places or more: fills the message with the winners, where they are near.
 pub fn read(q: u32, m: u32, message: &mut [u8], word: &[u8]) -> Outcome
     requires { ⌜ WellFormed q m (now word) × (5 ≤ m) × (length (now message) ≡ m + 1) ⌝ }
-    ensures { λ r. ⌜ Settled q m (now (word .entry)) (now (message .entry)) (now (message .exit)) (r .wrong) (r .margin) ⌝ }
+    ensures { λ r. ⌜ Settled q m (now (word .entry)) (now (message .entry)) (now (message .exit)) r ⌝ }
 {
     let mut found = [0u8; 9];
-    let r = winners(q, m, word, &mut found);
-    if 4 * r.wrong >= word.len() as u32 {
-        return r;
+    let reading = winners(q, m, word, &mut found);
+    if 4 * reading.wrong >= word.len() as u32 {
+        return Outcome::Doubtful;
     }
     copy(&found, message);
-    r
+    Outcome::Read(reading)
 }

@@ -2,8 +2,7 @@
 use native.Mathlib.Omega.{arith}
 use mathlib.Core.Path.{refl}
 use borrow.Author.Needs.{needs}
-use Rattle.decode_short_candidate.specs.Candidate.{message, messageOf}
-use Rattle.decode_short_margin.specs.Margins.{placeOf}
+use Rattle.decode_short_candidate.specs.Candidate.{message}
 use Rattle.decode_short.proofs.SettleLaws.{front-all, symbols-eight, doubtful, clear}
 use Rattle.decode_short.proofs.read_4.Statement.{statement}
 use Rattle.decode_short.proofs.read_4.Tie as tie
@@ -16,14 +15,17 @@ unfolding message
 returns c =
     let s = c .before .before .before .before .before in
     let t = c .before .before .verify-4 in
-    doubtful (s .args .q) 1 (s .args .word .now) (messageOf (t .result .candidate)) (t .result .wrong) (placeOf (t .result .first)) (s .pre .0) (omega arith) refl (t .ensures) (s .args .s .now) 0 (omega arith)
+    doubtful _ 1 _ _ _ _ (s .pre .0) (omega arith) refl (t .ensures) (s .args .s .now) (omega arith)
 
 store-3-requires : tie.Need-store-3-requires
 store-3-requires c κs =
     let s = c .before .before .before .before .before .before in
     let t = c .before .before .before .verify-4 in
-    let (a, c0, c1, c2, c3, c4) = symbols-eight (s .args .q) 2 (s .args .word .now) (t .result .candidate .constant) (t .result .candidate .c0) (t .result .candidate .c1) (t .result .candidate .c2) (t .result .candidate .c3) (t .result .candidate .c4) (s .pre .0) (t .ensures .candidate) in
+    let (a, c0, c1, c2, c3, c4) = symbols-eight _ 2 _ _ _ _ _ _ _ (s .pre .0) (t .ensures .candidate) in
     (omega (arith, s .pre .1), a, c0, c1)
+
+few-errors-requires : tie.Need-few-errors-requires
+few-errors-requires c κs = search needs
 
 same-length : tie.Need-same-length
 same-length c = search needs
@@ -31,10 +33,11 @@ same-length c = search needs
 returns-2 : tie.Need-returns-2
 unfolding message
 returns-2 c =
-    let s = c .before .before .before .before .before .before .before .before .before in
-    let t = c .before .before .before .before .before .before .verify-4 in
-    let f = c .before .before .store-3 in
-    clear (s .args .q) 1 (s .args .word .now) (messageOf (t .result .candidate)) (t .result .wrong) (placeOf (t .result .first)) (s .pre .0) (omega arith) refl (t .ensures) (s .args .s .now) (f .last .0) _ (omega arith) (omega arith) (front-all 3 _ (s .args .s .now) (f .last .0) (omega arith) (s .pre .1) (f .ensures)) (omega arith)
+    let s = c .before .before .before .before .before .before .before .before .before .before in
+    let t = c .before .before .before .before .before .before .before .verify-4 in
+    let f = c .before .before .before .store-3 in
+    let e = front-all 3 _ (s .args .s .now) (f .last .0) (omega arith) (s .pre .1) (f .ensures) in
+    clear _ 1 _ _ _ _ (s .pre .0) (omega arith) refl (t .ensures) (s .args .s .now) (f .last .0) _ (omega arith) (omega arith) e (c .few-errors .ensures)
 
 pub read-4-spec : {M : Type 1} → statement M
-read-4-spec = tie.close (tie.spec verify-4-requires returns store-3-requires same-length returns-2)
+read-4-spec = tie.close (tie.spec verify-4-requires returns store-3-requires few-errors-requires same-length returns-2)
