@@ -9,7 +9,7 @@ use Rattle.code_theory.specs.Question.{isAlphabet}
 use Rattle.code_theory.specs.Near as near
 use Rattle.code_theory.specs.Vote.{count, votes, Winners}
 use Rattle.code_theory.specs.Margin as lead
-use Rattle.decode_long_tally.specs.Digits.{difference, Tallied}
+use Rattle.decode_long_tally.specs.Counters.{difference, Tallied}
 use Rattle.swar_lanes.specs.Lane.{Packed}
 use Rattle.decode_long_winner.specs.Winner.{Leads}
 
@@ -47,7 +47,7 @@ pub record LongCode (q m : ℕ) (c : List ℕ) : Type 0 where
   pub size : length c ≡ 256
   pub below : (i : ℕ) → i < 2 ^ m → at c i < q
 
--- symbol wins what any word that x holds is ahead of the code c by
+-- symbol is the most frequent difference between the word in x and the code c
 abbrev pub LongConstant : ℕ → ℕ → List ℕ → List ℕ → ℕ → ℕ → ℕ → Type 0
 LongConstant q m c x symbol votes next = (w : List ℕ) → Packed (2 ^ (m - 4)) w x → Leads q (count (2 ^ m) (λ i. 0) (difference q w c)) symbol votes next
 

@@ -16,10 +16,9 @@ use Rattle.code_theory.proofs.SumLaws.{sum-ext, sum-next, sum-bound}
 use Rattle.code_theory.proofs.IndexLaws.{nth-partner-lt}
 use Rattle.code_theory.proofs.ModularLaws.{subMod-lt}
 use Rattle.code_theory.proofs.QuestionLaws.{alphabet, alphabet-bounds}
-use Rattle.swar_theory.specs.Digit as digits
+use Rattle.swar_theory.specs.Digit.{digit}
 use Rattle.swar_theory.proofs.DigitLaws.{digit-even, digit-odd, digit-down}
-use Rattle.decode_long_tally.specs.Digits.{digit}
-use Rattle.decode_long_tally.proofs.DigitLaws.{units-digit}
+use Rattle.decode_long_tally.proofs.CounterLaws.{units-digit}
 use Rattle.swar_lanes.specs.Lane.{offset, Lanes, Below, Packed}
 use Rattle.swar_lanes.specs.Ballot.{spot, Reach, BallotOf}
 use Rattle.swar_lanes.proofs.SpotLaws.{block-sum, offset-sum, spot-sum}
@@ -27,22 +26,22 @@ use Rattle.decode_long_tally.specs.Pairs.{Pairs, Listed}
 use Rattle.decode_long_tally.specs.Votes.{Votes, VotesOf, DifferencesOf}
 
 -- the entry that code reads: two lanes are the byte's low and high half
-byte : (d : ℕ) → bitAnd d 255 ≡ digits.digit 4 d 0 + 16 * digits.digit 4 d 1
-unfolding digits.digit
+byte : (d : ℕ) → bitAnd d 255 ≡ digit 4 d 0 + 16 * digit 4 d 1
+unfolding digit
 byte d =
-    let e : digits.digit 8 d 0 ≡ d % 256 = ap (λ z. z % 256) (div-one d) in
-    let l : digits.digit 4 d 0 ≡ d % 256 % 16 = digit-even 4 d 0 ∙ ap (λ z. z % 16) e in
-    let h : digits.digit 4 d 1 ≡ d % 256 / 16 = digit-odd 4 d 0 ∙ ap (λ z. z / 16) e in
+    let e : digit 8 d 0 ≡ d % 256 = ap (λ z. z % 256) (div-one d) in
+    let l : digit 4 d 0 ≡ d % 256 % 16 = digit-even 4 d 0 ∙ ap (λ z. z % 16) e in
+    let h : digit 4 d 1 ≡ d % 256 / 16 = digit-odd 4 d 0 ∙ ap (λ z. z / 16) e in
     and-mask d 8 ∙ omega (arith, l, h)
 
 pub byte-fits : (d n : ℕ) → n < 256 → bitAnd d n * 8 < 18446744073709551616
 byte-fits d n s = omega (arith, and-le-r d n)
 
 -- the index is one of the table's, whichever part of the byte is read
-pub byte-lt : (d n : ℕ) → digits.digit 4 d 0 < 8 → digits.digit 4 d 1 < 8 → n < 256 → bitAnd d n < 128
+pub byte-lt : (d n : ℕ) → digit 4 d 0 < 8 → digit 4 d 1 < 8 → n < 256 → bitAnd d n < 128
 byte-lt d n l h s = omega (arith, byte d, and-mask d 8, and-mod d n 8, and-le-l (d % 256) (n % 256), and-le-r d n)
 
-pub byte-entry : (u : List ℕ) (d : ℕ) → at u (bitAnd d 255) ≡ at u (digits.digit 4 d 0 + 16 * digits.digit 4 d 1)
+pub byte-entry : (u : List ℕ) (d : ℕ) → at u (bitAnd d 255) ≡ at u (digit 4 d 0 + 16 * digit 4 d 1)
 byte-entry u d = ap (at u) (byte d)
 
 -- the rows below q are enough for lanes below q
@@ -56,10 +55,10 @@ listed q u d a p b = record { values = eight; each = λ s t l h. p .each _ _ (ei
 pub unit-le : (v : ℕ) → v < 8 → 256 ^ v ≤ 72057594037927936
 unit-le v l = pow-le-pow-right (omega arith) {i = v} {j = 7} (le-of-suc-le-suc l)
 
-lane-at : (d e i l : ℕ) → e ≡ d / 2 ^ (4 * (2 * i)) → digits.digit 4 e l ≡ digits.digit 4 d (2 * i + l)
-lane-at d e i l f = ap (λ z. digits.digit 4 z l) f ∙ digit-down 4 d (2 * i) l
+lane-at : (d e i l : ℕ) → e ≡ d / 2 ^ (4 * (2 * i)) → digit 4 e l ≡ digit 4 d (2 * i + l)
+lane-at d e i l f = ap (λ z. digit 4 z l) f ∙ digit-down 4 d (2 * i) l
 
-pub lane-below : (d e i l : ℕ) → e ≡ d / 2 ^ (4 * (2 * i)) → Below 8 d → i < 8 → l < 2 → digits.digit 4 e l < 8
+pub lane-below : (d e i l : ℕ) → e ≡ d / 2 ^ (4 * (2 * i)) → Below 8 d → i < 8 → l < 2 → digit 4 e l < 8
 lane-below d e i l f b h k = omega (arith, lane-at d e i l f, b (2 * i + l) (omega arith))
 
 pub byte-start : (d : ℕ) → d ≡ d / 2 ^ (4 * (2 * 0))
@@ -72,20 +71,20 @@ byte-next d e i f =
 
 -- the units of the first n lanes
 unfoldable pub laneUnits : ℕ → ℕ → ℕ
-laneUnits d n = sum n (λ t. 256 ^ digits.digit 4 d t)
+laneUnits d n = sum n (λ t. 256 ^ digit 4 d t)
 
 pub units-none : (d : ℕ) → 0 ≡ laneUnits d (2 * 0)
 unfolding laneUnits sum
 units-none d = refl
 
 pub units-next : (u : List ℕ) (d e i t r : ℕ) → Listed u d → i < 8 → e ≡ d / 2 ^ (4 * (2 * i)) → t ≡ laneUnits d (2 * i)
-    → r ≡ at u (digits.digit 4 e 0 + 16 * digits.digit 4 e 1) → t + r ≡ laneUnits d (2 * (i + 1))
+    → r ≡ at u (digit 4 e 0 + 16 * digit 4 e 1) → t + r ≡ laneUnits d (2 * (i + 1))
 unfolding laneUnits
 units-next u d e i t r p l f g h =
     let n : 2 * (i + 1) ≡ 2 * i + 1 + 1 = omega arith in
     let z : 2 * i + 0 ≡ 2 * i = omega arith in
-    ap₂ (λ x y. x + y) g (h ∙ ap₂ (λ x y. at u (x + 16 * y)) (lane-at d e i 0 f ∙ ap (digits.digit 4 d) z) (lane-at d e i 1 f) ∙ p .each (2 * i) (2 * i + 1) (omega arith) (omega arith))
-    ∙ sym (ap (λ x. sum x (λ t. 256 ^ digits.digit 4 d t)) n ∙ sum-next (2 * i + 1) _ ∙ ap (λ x. x + 256 ^ digits.digit 4 d (2 * i + 1)) (sum-next (2 * i) _) ∙ add-assoc _ _ _)
+    ap₂ (λ x y. x + y) g (h ∙ ap₂ (λ x y. at u (x + 16 * y)) (lane-at d e i 0 f ∙ ap (digit 4 d) z) (lane-at d e i 1 f) ∙ p .each (2 * i) (2 * i + 1) (omega arith) (omega arith))
+    ∙ sym (ap (λ x. sum x (λ t. 256 ^ digit 4 d t)) n ∙ sum-next (2 * i + 1) _ ∙ ap (λ x. x + 256 ^ digit 4 d (2 * i + 1)) (sum-next (2 * i) _) ∙ add-assoc _ _ _)
 
 lane-units-le : (d n : ℕ) → Below 8 d → n ≤ 16 → laneUnits d n ≤ n * 72057594037927936
 unfolding laneUnits
@@ -94,7 +93,7 @@ lane-units-le d n b l = sum-bound n 72057594037927936 _ (λ i h. unit-le _ (b i 
 pub units-fit : (d i t u : ℕ) → t + u ≡ laneUnits d (2 * (i + 1)) → i < 8 → Below 8 d → t + u < 18446744073709551616
 units-fit d i t u e l b = omega (arith, e, lane-units-le d (2 * (i + 1)) b (omega arith))
 
-pub units-all : (d i t : ℕ) → i ≡ 8 → t ≡ laneUnits d (2 * i) → Below 8 d → (t ≡ sum 16 (λ t. 256 ^ digits.digit 4 d t)) × (t ≤ 16 * 72057594037927936)
+pub units-all : (d i t : ℕ) → i ≡ 8 → t ≡ laneUnits d (2 * i) → Below 8 d → (t ≡ sum 16 (λ t. 256 ^ digit 4 d t)) × (t ≤ 16 * 72057594037927936)
 unfolding laneUnits
 units-all d i t e f b =
     let g : t ≡ laneUnits d 16 = f ∙ ap (λ z. laneUnits d (2 * z)) e in
@@ -102,10 +101,10 @@ units-all d i t e f b =
 
 -- A TALLY of sixteen votes a number
 pub tallied-lanes : (q n : ℕ) (c : ℕ → ℕ → ℕ) (x : ℕ) → n ≤ 8 → ((j t : ℕ) → c j t < q) → x ≡ sum n (λ j. sum 16 (λ t. 256 ^ c j t))
-    → (v : ℕ) → v < q → digit x v ≡ sum n (λ j. sum 16 (λ t. same (c j t) v))
+    → (v : ℕ) → v < q → digit 8 x v ≡ sum n (λ j. sum 16 (λ t. same (c j t) v))
 unfolding count ifClear
 tallied-lanes q n c x short below e v l =
-    ap (λ z. digit z v) (e ∙ sum-ext n _ _ (λ j _. sum-ext 16 _ _ (λ t h. ap (λ z. 256 ^ z) (sym (flat j t h)))) ∙ sym (block-sum 16 n (λ i. 256 ^ c (i / 16) (i % 16))))
+    ap (λ z. digit 8 z v) (e ∙ sum-ext n _ _ (λ j _. sum-ext 16 _ _ (λ t h. ap (λ z. 256 ^ z) (sym (flat j t h)))) ∙ sym (block-sum 16 n (λ i. 256 ^ c (i / 16) (i % 16))))
     ∙ units-digit q (n * 16) (λ i. c (i / 16) (i % 16)) (omega arith) (λ i h. below (i / 16) (i % 16)) v l
     ∙ block-sum 16 n (λ i. same (c (i / 16) (i % 16)) v)
     ∙ sum-ext n _ _ (λ j _. sum-ext 16 _ _ (λ t h. ap (λ z. same z v) (flat j t h)))
@@ -151,7 +150,7 @@ module _ (q m k : ℕ) (x : List ℕ) (v : Votes q m x) (h : k < m) where
     partner = λ g. omega (arith, far-partner j l g, power, few-ballots);
   }
 
-  pub ballots-next : (j t d u : ℕ) → j < 2 ^ (m - 5) → Balloted q m k x j t → BallotOf q k j x d → u ≡ sum 16 (λ t. 256 ^ digits.digit 4 d t) → u ≤ 16 * 72057594037927936
+  pub ballots-next : (j t d u : ℕ) → j < 2 ^ (m - 5) → Balloted q m k x j t → BallotOf q k j x d → u ≡ sum 16 (λ t. 256 ^ digit 4 d t) → u ≤ 16 * 72057594037927936
       → Balloted q m k x (j + 1) (t + u)
   unfolding ballotUnits
   ballots-next j t d u l (b, e) s f g = (
@@ -168,24 +167,24 @@ module _ (q m k : ℕ) (x : List ℕ) (v : Votes q m x) (h : k < m) where
       (λ j t. subMod-lt q _ _ (omega (arith, alphabet-bounds q (alphabet q (v .alphabet))))) (f w p ∙ ap (ballotUnits q k w) e) c l
       ∙ spot-sum k m h (v .low) (λ i. same (vote q k (at w) i) c)
 
--- WHAT ONE WORD IS AHEAD of another by, number by number
-unfoldable pub gapUnits : ℕ → ℕ → List ℕ → List ℕ → ℕ → ℕ
-gapUnits q f w c n = sum n (λ j. sum 16 (λ t. 256 ^ subMod q (at w (16 * (f + j) + offset t)) (at c (16 * (f + j) + offset t))))
+-- THE DIFFERENCES of two words, number by number
+unfoldable pub differenceUnits : ℕ → ℕ → List ℕ → List ℕ → ℕ → ℕ
+differenceUnits q f w c n = sum n (λ j. sum 16 (λ t. 256 ^ subMod q (at w (16 * (f + j) + offset t)) (at c (16 * (f + j) + offset t))))
 
 -- the units of the first n numbers from number f on
-abbrev pub Gapped : ℕ → ℕ → List ℕ → List ℕ → ℕ → ℕ → Type 0
-Gapped q f x y n t =
-    (t ≤ n * 1152921504606846976) × ((w c : List ℕ) (s : ℕ) → Packed s w x → Packed s c y → f + n ≤ s → t ≡ gapUnits q f w c n)
+abbrev pub Differing : ℕ → ℕ → List ℕ → List ℕ → ℕ → ℕ → Type 0
+Differing q f x y n t =
+    (t ≤ n * 1152921504606846976) × ((w c : List ℕ) (s : ℕ) → Packed s w x → Packed s c y → f + n ≤ s → t ≡ differenceUnits q f w c n)
 
-pub gaps-none : (q f : ℕ) (x y : List ℕ) → Gapped q f x y 0 0
-unfolding gapUnits sum
-gaps-none q f x y = (omega arith, λ w c s p r l. refl)
+pub differences-none : (q f : ℕ) (x y : List ℕ) → Differing q f x y 0 0
+unfolding differenceUnits sum
+differences-none q f x y = (omega arith, λ w c s p r l. refl)
 
-pub gaps-next : (q f : ℕ) (x y : List ℕ) (n t d u : ℕ) → Gapped q f x y n t
-    → Lanes d (λ t. subMod q (digits.digit 4 (at x (f + n)) t) (digits.digit 4 (at y (f + n)) t)) → u ≡ sum 16 (λ t. 256 ^ digits.digit 4 d t) → u ≤ 16 * 72057594037927936
-    → Gapped q f x y (n + 1) (t + u)
-unfolding gapUnits
-gaps-next q f x y n t d u (b, e) s g h = (
+pub differences-next : (q f : ℕ) (x y : List ℕ) (n t d u : ℕ) → Differing q f x y n t
+    → Lanes d (λ t. subMod q (digit 4 (at x (f + n)) t) (digit 4 (at y (f + n)) t)) → u ≡ sum 16 (λ t. 256 ^ digit 4 d t) → u ≤ 16 * 72057594037927936
+    → Differing q f x y (n + 1) (t + u)
+unfolding differenceUnits
+differences-next q f x y n t d u (b, e) s g h = (
   omega arith,
   λ w c z p r k.
       ap₂ (λ a b. a + b) (e w c z p r (omega arith)) (g ∙ sum-ext 16 _ _ (λ i j.
@@ -193,11 +192,11 @@ gaps-next q f x y n t d u (b, e) s g h = (
       ∙ sym (sum-next n (λ j. sum 16 (λ t. 256 ^ subMod q (at w (16 * (f + j) + offset t)) (at c (16 * (f + j) + offset t))))),
 )
 
-pub gaps-all : (q f : ℕ) (x y : List ℕ) (n i t : ℕ) → i ≡ n → isAlphabet q ≡ true → n ≤ 8 → Gapped q f x y i t → DifferencesOf q f x y n t
-unfolding gapUnits count ifClear
-gaps-all q f x y n i t h a few (b, e) w c s p r k v l =
+pub differences-all : (q f : ℕ) (x y : List ℕ) (n i t : ℕ) → i ≡ n → isAlphabet q ≡ true → n ≤ 8 → Differing q f x y i t → DifferencesOf q f x y n t
+unfolding differenceUnits count ifClear
+differences-all q f x y n i t h a few (b, e) w c s p r k v l =
     tallied-lanes q n (λ j t. subMod q (at w (16 * (f + j) + offset t)) (at c (16 * (f + j) + offset t))) t few
-    (λ j t. subMod-lt q _ _ (omega (arith, alphabet-bounds q (alphabet q a)))) (e w c s p r (omega arith) ∙ ap (gapUnits q f w c) h) v l
+    (λ j t. subMod-lt q _ _ (omega (arith, alphabet-bounds q (alphabet q a)))) (e w c s p r (omega arith) ∙ ap (differenceUnits q f w c) h) v l
     ∙ sum-ext n _ _ (λ j _. offset-sum (λ i. same (subMod q (at w (16 * (f + j) + i)) (at c (16 * (f + j) + i))) v)
     ∙ sum-ext 16 _ _ (λ i _. ap (λ z. same (subMod q (at w z) (at c z)) v) (places j i)))
     ∙ sym (block-sum 16 n (λ i. same (subMod q (at w (f * 16 + i)) (at c (f * 16 + i))) v))

@@ -8,7 +8,7 @@ use Rattle.code_theory.specs.Sum.{at}
 use Rattle.code_theory.specs.Modular.{subMod}
 use Rattle.code_theory.specs.Vote.{count, votes}
 use Rattle.code_theory.specs.Question.{isAlphabet}
-use Rattle.decode_long_tally.specs.Digits.{Counts, Tallied}
+use Rattle.decode_long_tally.specs.Counters.{Counts, Tallied}
 use Rattle.swar_lanes.specs.Lane.{Within, Packed}
 
 -- what the count of a long word's votes asks for
@@ -27,7 +27,7 @@ VotesOf q m k x r = (w : List ℕ) → Packed (2 ^ (m - 4)) w x → Counts q r (
 abbrev pub TalliesOf : ℕ → ℕ → List ℕ → List ℕ → ℕ → Type 0
 TalliesOf q m x t n = (w : List ℕ) → Packed (2 ^ (m - 4)) w x → Tallied q m w t n
 
--- the tally r counts what the 16 n symbols of a word from number f on are ahead of those of another by
+-- the tally r counts the differences between the 16 n symbols of a word from number f on and those of another
 abbrev pub DifferencesOf : ℕ → ℕ → List ℕ → List ℕ → ℕ → ℕ → Type 0
 DifferencesOf q f x y n r =
     (w c : List ℕ) (s : ℕ) → Packed s w x → Packed s c y → f + n ≤ s → Counts q r (count (n * 16) (λ i. 0) (λ i. subMod q (at w (f * 16 + i)) (at c (f * 16 + i))))

@@ -1,5 +1,5 @@
 -- The winner over the values, one after the other. Assumes nothing.
-use Prim.Native.Nat.{ℕ, suc, _+_, _-_, _/_, _%_, _^_, _≤_, _<_, max}
+use Prim.Native.Nat.{ℕ, suc, _+_, _*_, _-_, _/_, _%_, _^_, _≤_, _<_, max}
 use mathlib.Core.Path.{_≡_, refl, ap, ap₂, sym, _∙_}
 use mathlib.Core.Logic.{_≢_, _⊎_, inl, inr}
 use native.Mathlib.Decide.{decLt}
@@ -11,7 +11,8 @@ use Rattle.code_theory.specs.Modular.{same}
 use Rattle.code_theory.specs.Margin.{mostOther, lead}
 use Rattle.code_theory.proofs.ModularLaws.{same-eq, same-ne}
 use Rattle.code_theory.proofs.MarginLaws.{mostOther-le, le-mostOther, mostOther-ext}
-use Rattle.decode_long_tally.specs.Digits.{digit, Counts}
+use Rattle.swar_theory.specs.Digit.{digit}
+use Rattle.decode_long_tally.specs.Counters.{Counts}
 use Rattle.decode_long_winner.specs.Winner.{Leads, Updates, together}
 
 most-other : (n s : ℕ) (f : ℕ → ℕ) → n ≢ s → mostOther (suc n) s f ≡ max (mostOther n s f) (f n)
@@ -77,7 +78,7 @@ pub leads-lead : (q : ℕ) (f : ℕ → ℕ) (s n o : ℕ) → Leads q f s n o �
 unfolding lead
 leads-lead q f s n o w = ap₂ (λ x y. x - y) (w .own) (w .other)
 
-pub together-is : (t u v a b : ℕ) → a ≡ digit t v → b ≡ digit u v → a + b ≡ together t u v
+pub together-is : (t u v a b : ℕ) → a ≡ digit 8 t v → b ≡ digit 8 u v → a + b ≡ together t u v
 unfolding together
 together-is t u v a b e f = ap₂ (λ x y. x + y) e f
 
@@ -85,5 +86,5 @@ together-is t u v a b e f = ap₂ (λ x y. x + y) e f
 pub alone : (q t : ℕ) (f : ℕ → ℕ) (s n o : ℕ) → Counts q t f → Leads q (together t 0) s n o → Leads q f s n o
 unfolding together digit
 alone q t f s n o h = leads-ext q (together t 0) f s n o (λ v l.
-    let z : 0 / 256 ^ v % 256 ≡ 0 = ap (λ x. x % 256) (zero-div (256 ^ v)) in
+    let z : 0 / 2 ^ (8 * v) % 256 ≡ 0 = ap (λ x. x % 256) (zero-div (2 ^ (8 * v))) in
     omega (arith, z, h v l))

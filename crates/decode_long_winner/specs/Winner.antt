@@ -2,7 +2,7 @@
 use Prim.Native.Nat.{ℕ, _+_, _<_, _≤_, min, max}
 use mathlib.Core.Path.{_≡_}
 use Rattle.code_theory.specs.Margin.{mostOther}
-use Rattle.decode_long_tally.specs.Digits.{digit}
+use Rattle.swar_theory.specs.Digit.{digit}
 
 -- of the values below n, symbol has the most votes, and any other at most next, which one of them has
 pub record Leads (n : ℕ) (f : ℕ → ℕ) (symbol votes next : ℕ) : Type 0 where
@@ -20,4 +20,4 @@ pub record Updates (symbol votes next v x symbol′ votes′ next′ : ℕ) : Ty
 
 -- the votes for v that two tallies hold together
 unfoldable pub together : ℕ → ℕ → ℕ → ℕ
-together t u v = digit t v + digit u v
+together t u v = digit 8 t v + digit 8 u v

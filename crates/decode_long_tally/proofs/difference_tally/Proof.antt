@@ -2,19 +2,19 @@
 use Prim.Native.Nat.{_-_, _≤_}
 use native.Mathlib.Omega.{arith}
 use Rattle.swar_lanes.proofs.LaneLaws.{less-below}
-use Rattle.decode_long_tally.proofs.TallyLaws.{Gapped, listed, gaps-none, gaps-next, gaps-all}
+use Rattle.decode_long_tally.proofs.TallyLaws.{Differing, listed, differences-none, differences-next, differences-all}
 use borrow.Author.Needs.{needs}
 use Rattle.decode_long_tally.proofs.difference_tally.Statement.{statement}
 use Rattle.decode_long_tally.proofs.difference_tally.Tie as tie
 
 abbrev Inv-loop : tie.InvT-loop
-Inv-loop q from count table x y t₀ i₀ t i = (i ≤ count) × Gapped q from x y i t
+Inv-loop q from count table x y t₀ i₀ t i = (i ≤ count) × Differing q from x y i t
 
 abbrev μ-loop : tie.MeasureT-loop
 μ-loop q from count table x y t₀ i₀ t i = count - i
 
 loop-holds : tie.Need-loop-holds Inv-loop μ-loop
-loop-holds c = (omega arith, gaps-none (c .args .q) (c .args .from) (c .args .x .now) (c .args .y .now))
+loop-holds c = (omega arith, differences-none (c .args .q) (c .args .from) (c .args .x .now) (c .args .y .now))
 
 add-differences : tie.Need-add-differences Inv-loop μ-loop
 add-differences c = omega (arith, c .before .before .pre .4)
@@ -42,12 +42,12 @@ loop-again : tie.Need-loop-again Inv-loop μ-loop
 loop-again c =
     let s = c .before .before .before .before in
     let l = c .before .before .before .loop in
-    (omega arith, gaps-next (s .args .q) (s .args .from) (s .args .x .now) (s .args .y .now) (l .i) (l .t) _ _ (l .inv .1) (c .before .differences .ensures) (c .lane-tally .ensures .0) (c .lane-tally .ensures .1))
+    (omega arith, differences-next (s .args .q) (s .args .from) (s .args .x .now) (s .args .y .now) (l .i) (l .t) _ _ (l .inv .1) (c .before .differences .ensures) (c .lane-tally .ensures .0) (c .lane-tally .ensures .1))
 
 returns : tie.Need-returns Inv-loop μ-loop
 returns c =
     let s = c .before .before in
-    gaps-all (s .args .q) (s .args .from) (s .args .x .now) (s .args .y .now) (s .args .count) (c .before .loop .i) _ (omega arith) (s .pre .0) (s .pre .5) (c .before .loop .inv .1)
+    differences-all (s .args .q) (s .args .from) (s .args .x .now) (s .args .y .now) (s .args .count) (c .before .loop .i) _ (omega arith) (s .pre .0) (s .pre .5) (c .before .loop .inv .1)
 
 pub difference-tally-spec : {M : Type 1} → statement M
 difference-tally-spec =

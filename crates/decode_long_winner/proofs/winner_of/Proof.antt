@@ -1,18 +1,18 @@
 -- `winner_of` meets its contract. The loop's invariant: a and b are the tallies with v - 1 digits taken off, and r leads among the values below v.
-use Prim.Native.Nat.{_≤_, _-_, _/_, _^_}
+use Prim.Native.Nat.{_≤_, _*_, _-_, _/_, _^_}
 use mathlib.Core.Path.{_≡_, sym, _∙_, ap₂}
 use native.Mathlib.Omega.{arith}
 use borrow.Author.Needs.{needs}
 use Rattle.code_theory.proofs.QuestionLaws.{alphabet, alphabet-bounds}
 use Rattle.decode_long_winner.specs.Winner.{Leads, together}
-use Rattle.decode_long_tally.proofs.DigitLaws.{digit-first, digit-start, digit-next, digit-shift}
+use Rattle.decode_long_winner.proofs.CounterLaws.{digit-first, digit-start, digit-next, digit-shift}
 use Rattle.decode_long_winner.proofs.WinnerLaws.{leads-first, leads-next, leads-all, together-is}
 use Rattle.decode_long_winner.proofs.winner_of.Statement.{statement}
 use Rattle.decode_long_winner.proofs.winner_of.Tie as tie
 
 abbrev Inv-loop : tie.InvT-loop
 Inv-loop q t u r₀ a₀ b₀ v₀ r a b v =
-    (1 ≤ v) × (v ≤ q) × (a ≡ t / 256 ^ (v - 1)) × (b ≡ u / 256 ^ (v - 1)) × Leads v (together t u) (r .symbol) (r .votes) (r .next)
+    (1 ≤ v) × (v ≤ q) × (a ≡ t / 2 ^ (8 * (v - 1))) × (b ≡ u / 2 ^ (8 * (v - 1))) × Leads v (together t u) (r .symbol) (r .votes) (r .next)
 
 abbrev μ-loop : tie.MeasureT-loop
 μ-loop q t u r₀ a₀ b₀ v₀ r a b v = q - v
