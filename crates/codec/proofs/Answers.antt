@@ -50,4 +50,6 @@ module _ (q m : ℕ) (message word : List ℕ) where
         let sized = readable q m message word (decode-word q m message word z) .sized in
         let n = pow-mono {i = m} {j = 8} (sized .high) in
         let t = at (nearMessage q m word) in
-        (omega (arith, x, distance-le q m t (at word), n), omega (arith, y, least-le m (λ k. lead q (t k) (tally q m t (at word) k)) 1 (omega (arith, sized .low)), votes-le-half q m 0 (at word) (omega (arith, sized .low)) (t 1), n))
+        let lead-le = least-le m (λ k. lead q (t k) (tally q m t (at word) k)) 1 (omega (arith, sized .low)) in
+        let votes-le = votes-le-half q m 0 (at word) (omega (arith, sized .low)) (t 1) in
+        (omega (arith, x, distance-le q m t (at word), n), omega (arith, y, lead-le, votes-le, n))

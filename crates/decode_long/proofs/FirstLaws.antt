@@ -44,7 +44,7 @@ first-next q m w s k low a n o low′ h r x e = rw add-one (record {
   zeroth = getD-set-other s (suc k) 0 a 0 (λ z. absurd (omega (arith, z))) ∙ r .zeroth;
   below = λ y l. below y (eq-or-lt-of-le (le-of-suc-le-suc l));
   wins = λ y l. wins y (eq-or-lt-of-le (le-of-suc-le-suc l));
-  lowest = e ∙ ap₂ min (r .lowest ∙ leastOf-ext k _ _ 256 (λ y l. ap (λ z. lead q z (votes q m y (at w))) (sym (other y l)))) (leads-lead q _ a n o x ∙ ap (λ z. lead q z (votes q m k (at w))) (sym mine));
+  lowest = e ∙ ap₂ min below-lead own-lead;
 })
   where
     mine : at (set s (suc k) a) (suc k) ≡ a
@@ -52,6 +52,12 @@ first-next q m w s k low a n o low′ h r x e = rw add-one (record {
 
     other : (y : ℕ) → y < k → at (set s (suc k) a) (suc y) ≡ at s (suc y)
     other y l = getD-set-other s (suc k) (suc y) a 0 (λ z. absurd (omega (arith, z)))
+
+    below-lead : low ≡ leastOf k (leadOf q m w (set s (suc k) a)) 256
+    below-lead = r .lowest ∙ leastOf-ext k _ _ 256 (λ y l. ap (λ z. lead q z (votes q m y (at w))) (sym (other y l)))
+
+    own-lead : n - o ≡ lead q (at (set s (suc k) a) (suc k)) (votes q m k (at w))
+    own-lead = leads-lead q _ a n o x ∙ ap (λ z. lead q z (votes q m k (at w))) (sym mine)
 
     below : (y : ℕ) → (y ≡ k) ⊎ (y < k) → at (set s (suc k) a) (suc y) < q
     below y (inl z) = rw (z, mine) (x .inside)

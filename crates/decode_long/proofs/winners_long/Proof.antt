@@ -34,7 +34,10 @@ slice-aggregate-write : tie.Need-slice-aggregate-write
 slice-aggregate-write c = search needs
 
 write-requires : tie.Need-write-requires
-write-requires c κs = first-fits _ _ _ _ _ _ (c .before .before .before .before .before .before .before .before .before .before .before .before .before .pre .0) (c .before .before .before .coefficients .ensures (c .before .before .before .before .before .before .before .before .before .before .before .before .before .args .word .now) (c .before .before .before .before .before .before .long-tallies .ensures .2)) (long-room _ _ (c .before .before .before .before .before .before .before .before .before .before .before .before .before .pre .0 .high) refl)
+write-requires c κs =
+    let s = c .before .before .before .before .before .before .before .before .before .before .before .before .before in
+    let t = c .before .before .before .coefficients .ensures (s .args .word .now) (c .before .before .before .before .before .before .long-tallies .ensures .2) in
+    first-fits _ _ _ _ _ _ (s .pre .0) t (long-room _ _ (s .pre .0 .high) refl)
 
 slice-aggregate-long-constant : tie.Need-slice-aggregate-long-constant
 slice-aggregate-long-constant c = search needs
@@ -42,24 +45,37 @@ slice-aggregate-long-constant c = search needs
 long-constant-requires : tie.Need-long-constant-requires
 long-constant-requires c κs =
     let s = c .before .before .before .before .before .before .before .before .before .before .before .before .before .before .before .before .before .before .before in
-    ((long-code (c .before .before .before .before .before .before .before .before .before .before .before .before .before .before .before .before .before .before .before .args .q) (c .before .before .before .before .before .before .before .before .before .before .before .before .before .before .before .before .before .before .before .args .m) (c .before .before .before .before .before .before .before .before .before .before .before .before .before .before .before .before .before .before .before .args .word .now) _ _ (c .before .before .before .before .before .before .before .before .before .before .before .before .before .before .before .before .before .before .before .pre .0) ((c .before .before .before .before .before .before .before .before .before .coefficients .ensures (c .before .before .before .before .before .before .before .before .before .before .before .before .before .before .before .before .before .before .before .args .word .now) (c .before .before .before .before .before .before .before .before .before .before .before .before .long-tallies .ensures .2)) .zeroth) (long-room _ _ (c .before .before .before .before .before .before .before .before .before .before .before .before .before .before .before .before .before .before .before .pre .0 .high) (c .before .before .before .before .before .write .ensures .size)) (c .before .before .before .before .before .write .ensures .coded) (s .pre .2) (c .before .before .before .before .before .write .ensures .size)), c .before .before .before .before .before .before .before .before .before .before .before .before .before .before .before .before .pairs .ensures, c .before .before .before .before .before .before .before .before .before .before .before .before .long-tallies .ensures .0, zeros-empty)
+    let p = c .before .before .before .before .before .before .before .before .before .before .before .before .before .before .before .before .pairs in
+    let x = c .before .before .before .before .before .before .before .before .before .before .before .before .long-tallies .ensures in
+    let t = c .before .before .before .before .before .before .before .before .before .coefficients .ensures (s .args .word .now) (x .2) in
+    let w = c .before .before .before .before .before .write .ensures in
+    let room = long-room _ _ (s .pre .0 .high) (w .size) in
+    (long-code _ _ _ _ _ (s .pre .0) (t .zeroth) room (w .coded) (s .pre .2) (w .size), p .ensures, x .0, zeros-empty)
 
 cast-set-constant : tie.Need-cast-set-constant
-cast-set-constant c = omega (arith, word-length (c .before .before .before .before .before .before .before .before .before .before .before .before .before .before .before .before .before .before .before .before .args .q) (c .before .before .before .before .before .before .before .before .before .before .before .before .before .before .before .before .before .before .before .before .args .m) (c .before .before .before .before .before .before .before .before .before .before .before .before .before .before .before .before .before .before .before .before .args .word .now) (c .before .before .before .before .before .before .before .before .before .before .before .before .before .before .before .before .before .before .before .before .pre .0))
+cast-set-constant c =
+    let s = c .before .before .before .before .before .before .before .before .before .before .before .before .before .before .before .before .before .before .before .before in
+    omega (arith, word-length _ _ _ (s .pre .0))
 
 set-constant-requires : tie.Need-set-constant-requires
 set-constant-requires c κs =
     let s = c .before .before .before .before .before .before .before .before .before .before .before .before .before .before .before .before .before .before .before .before .before in
-    let t = (c .before .before .before .before .before .before .before .before .before .before .before .coefficients .ensures (c .before .before .before .before .before .before .before .before .before .before .before .before .before .before .before .before .before .before .before .before .before .args .word .now) (c .before .before .before .before .before .before .before .before .before .before .before .before .before .before .long-tallies .ensures .2)) in
-    let l = (constant-leads (c .before .before .before .before .before .before .before .before .before .before .before .before .before .before .before .before .before .before .before .before .before .args .q) (c .before .before .before .before .before .before .before .before .before .before .before .before .before .before .before .before .before .before .before .before .before .args .m) (c .before .before .before .before .before .before .before .before .before .before .before .before .before .before .before .before .before .before .before .before .before .args .word .now) _ _ (c .before .before .before .before .before .before .before .before .before .before .before .before .before .before .before .before .before .before .before .before .before .pre .0) ((c .before .before .before .before .before .before .before .before .before .before .before .coefficients .ensures (c .before .before .before .before .before .before .before .before .before .before .before .before .before .before .before .before .before .before .before .before .before .args .word .now) (c .before .before .before .before .before .before .before .before .before .before .before .before .before .before .long-tallies .ensures .2)) .zeroth) (long-room _ _ (c .before .before .before .before .before .before .before .before .before .before .before .before .before .before .before .before .before .before .before .before .before .pre .0 .high) (c .before .before .before .before .before .before .before .write .ensures .size)) (c .before .before .before .before .before .before .before .write .ensures .coded) _ _ _ (c .before .long-constant .ensures _ (c .before .before .before .before .before .before .before .before .before .before .before .before .before .before .long-tallies .ensures .1))) in
-    (omega (arith, l .inside, bounds (s .args .q) (s .pre .0 .alphabet)), votes-le (s .args .q) (s .args .m) (s .args .word .now) _ (s .pre .0) _ t _ _ _ l, next-le _ _ _ _ _ l, t .size)
+    let x = c .before .before .before .before .before .before .before .before .before .before .before .before .before .before .long-tallies .ensures in
+    let t = c .before .before .before .before .before .before .before .before .before .before .before .coefficients .ensures (s .args .word .now) (x .2) in
+    let w = c .before .before .before .before .before .before .before .write .ensures in
+    let room = long-room _ _ (s .pre .0 .high) (w .size) in
+    let l = constant-leads _ _ _ _ _ (s .pre .0) (t .zeroth) room (w .coded) _ _ _ (c .before .long-constant .ensures _ (x .1)) in
+    (omega (arith, l .inside, bounds (s .args .q) (s .pre .0 .alphabet)), votes-le _ _ _ _ (s .pre .0) _ t _ _ _ l, next-le _ _ _ _ _ l, t .size)
 
 returns : tie.Need-returns
 returns c =
     let s = c .before .before .before .before .before .before .before .before .before .before .before .before .before .before .before .before .before .before .before .before .before .before in
-    let t = (c .before .before .before .before .before .before .before .before .before .before .before .before .coefficients .ensures (c .before .before .before .before .before .before .before .before .before .before .before .before .before .before .before .before .before .before .before .before .before .before .args .word .now) (c .before .before .before .before .before .before .before .before .before .before .before .before .before .before .before .long-tallies .ensures .2)) in
-    let l = (constant-leads (c .before .before .before .before .before .before .before .before .before .before .before .before .before .before .before .before .before .before .before .before .before .before .args .q) (c .before .before .before .before .before .before .before .before .before .before .before .before .before .before .before .before .before .before .before .before .before .before .args .m) (c .before .before .before .before .before .before .before .before .before .before .before .before .before .before .before .before .before .before .before .before .before .before .args .word .now) _ _ (c .before .before .before .before .before .before .before .before .before .before .before .before .before .before .before .before .before .before .before .before .before .before .pre .0) ((c .before .before .before .before .before .before .before .before .before .before .before .before .coefficients .ensures (c .before .before .before .before .before .before .before .before .before .before .before .before .before .before .before .before .before .before .before .before .before .before .args .word .now) (c .before .before .before .before .before .before .before .before .before .before .before .before .before .before .before .long-tallies .ensures .2)) .zeroth) (long-room _ _ (c .before .before .before .before .before .before .before .before .before .before .before .before .before .before .before .before .before .before .before .before .before .before .pre .0 .high) (c .before .before .before .before .before .before .before .before .write .ensures .size)) (c .before .before .before .before .before .before .before .before .write .ensures .coded) _ _ _ (c .before .before .long-constant .ensures _ (c .before .before .before .before .before .before .before .before .before .before .before .before .before .before .before .long-tallies .ensures .1))) in
-    winning (s .args .q) (s .args .m) (s .args .word .now) _ (s .pre .0) _ t _ _ _ l _ _ _ (c .set-constant .ensures .0) (c .set-constant .ensures .1) (c .set-constant .ensures .2)
+    let x = c .before .before .before .before .before .before .before .before .before .before .before .before .before .before .before .long-tallies .ensures in
+    let t = c .before .before .before .before .before .before .before .before .before .before .before .before .coefficients .ensures (s .args .word .now) (x .2) in
+    let w = c .before .before .before .before .before .before .before .before .write .ensures in
+    let room = long-room _ _ (s .pre .0 .high) (w .size) in
+    let l = constant-leads _ _ _ _ _ (s .pre .0) (t .zeroth) room (w .coded) _ _ _ (c .before .before .long-constant .ensures _ (x .1)) in
+    winning _ _ _ _ (s .pre .0) _ t _ _ _ l _ _ _ (c .set-constant .ensures .0) (c .set-constant .ensures .1) (c .set-constant .ensures .2)
 
 pub winners-long-spec : {M : Type 1} → statement M
 winners-long-spec =

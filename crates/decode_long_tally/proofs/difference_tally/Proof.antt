@@ -42,7 +42,9 @@ loop-again : tie.Need-loop-again Inv-loop μ-loop
 loop-again c =
     let s = c .before .before .before .before in
     let l = c .before .before .before .loop in
-    (omega arith, differences-next (s .args .q) (s .args .from) (s .args .x .now) (s .args .y .now) (l .i) (l .t) _ _ (l .inv .1) (c .before .differences .ensures) (c .lane-tally .ensures .0) (c .lane-tally .ensures .1))
+    let d = c .before .differences .ensures in
+    let u = c .lane-tally .ensures in
+    (omega arith, differences-next (s .args .q) (s .args .from) (s .args .x .now) (s .args .y .now) (l .i) (l .t) _ _ (l .inv .1) d (u .0) (u .1))
 
 returns : tie.Need-returns Inv-loop μ-loop
 returns c =

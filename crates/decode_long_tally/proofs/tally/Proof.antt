@@ -48,7 +48,9 @@ loop-again : tie.Need-loop-again Inv-loop μ-loop
 loop-again c =
     let s = c .before .before .before .before .before in
     let l = c .before .before .before .loop in
-    (omega arith, l .inv .1, ballots-next (s .args .q) (s .args .m) (s .args .k) (s .args .x .now) (s .pre .0) (s .pre .2) (l .j) (l .t) _ _ (omega arith) (l .inv .2) (c .before .ballot .ensures .0) (c .lane-tally .ensures .0) (c .lane-tally .ensures .1))
+    let b = c .before .ballot .ensures .0 in
+    let u = c .lane-tally .ensures in
+    (omega arith, l .inv .1, ballots-next (s .args .q) _ (s .args .k) (s .args .x .now) (s .pre .0) (s .pre .2) (l .j) (l .t) _ _ (omega arith) (l .inv .2) b (u .0) (u .1))
 
 returns : tie.Need-returns Inv-loop μ-loop
 returns c =

@@ -29,7 +29,9 @@ add-t10 c = search needs
 loop-holds : tie.Need-loop-holds Inv-loop μ-loop
 loop-holds c =
     let s = c .before .before in
-    (omega arith, omega (arith, alphabet-bounds (s .args .q) (alphabet (s .args .q) (s .pre))), digit-start (s .args .t), digit-start (s .args .u), leads-first (together (s .args .t) (s .args .u)) _ (together-is (s .args .t) (s .args .u) 0 _ _ (digit-first _ _ (c .before .low-digit .ensures .0)) (digit-first _ _ (c .low-digit2 .ensures .0))))
+    let b = alphabet-bounds (s .args .q) (alphabet (s .args .q) (s .pre)) in
+    let votes = together-is (s .args .t) (s .args .u) 0 _ _ (digit-first _ _ (c .before .low-digit .ensures .0)) (digit-first _ _ (c .low-digit2 .ensures .0)) in
+    (omega arith, omega (arith, b), digit-start (s .args .t), digit-start (s .args .u), leads-first _ _ votes)
 
 low-digit-requires-3 : tie.Need-low-digit-requires-3 Inv-loop μ-loop
 low-digit-requires-3 c κs = search needs
@@ -53,10 +55,19 @@ loop-again : tie.Need-loop-again Inv-loop μ-loop
 loop-again c =
     let s = c .before .before .before .before .before .before .before in
     let l = c .before .before .before .before .loop in
-    (omega arith, omega arith, digit-shift (s .args .t) (l .v) _ (l .inv .0) (l .inv .2), digit-shift (s .args .u) (l .v) _ (l .inv .0) (l .inv .3), leads-next (l .v) (together (s .args .t) (s .args .u)) (l .r .symbol) (l .r .votes) (l .r .next) _ _ _ _ (l .inv .4) (together-is (s .args .t) (s .args .u) (l .v) _ _ (digit-next (s .args .t) (l .v) (l .a) _ (l .inv .0) (l .inv .2) (c .before .before .low-digit3 .ensures .0)) (digit-next (s .args .u) (l .v) (l .b) _ (l .inv .0) (l .inv .3) (c .before .low-digit4 .ensures .0))) (c .update .ensures))
+    let i = l .inv in
+    let x = digit-next (s .args .t) (l .v) (l .a) _ (i .0) (i .2) (c .before .before .low-digit3 .ensures .0) in
+    let y = digit-next (s .args .u) (l .v) (l .b) _ (i .0) (i .3) (c .before .low-digit4 .ensures .0) in
+    let votes = together-is (s .args .t) (s .args .u) (l .v) _ _ x y in (
+      omega arith,
+      omega arith,
+      digit-shift (s .args .t) (l .v) _ (i .0) (i .2),
+      digit-shift (s .args .u) (l .v) _ (i .0) (i .3),
+      leads-next (l .v) _ _ _ _ _ _ _ _ (i .4) votes (c .update .ensures),
+    )
 
 returns : tie.Need-returns Inv-loop μ-loop
-returns c = leads-all _ (c .before .loop .v) (together (c .before .before .before .before .args .t) (c .before .before .before .before .args .u)) _ _ _ (omega arith) (c .before .loop .inv .4)
+returns c = leads-all _ (c .before .loop .v) _ _ _ _ (omega arith) (c .before .loop .inv .4)
 
 pub winner-of-spec : {M : Type 1} → statement M
 winner-of-spec =

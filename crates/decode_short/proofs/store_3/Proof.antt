@@ -1,6 +1,4 @@
 -- `store_3` meets its contract: one symbol after the other.
-use native.Mathlib.Omega.{arith}
-use mathlib.Core.Path.{refl}
 use Rattle.decode_short.proofs.SettleLaws.{stored-three}
 use borrow.Author.Needs.{needs}
 use Rattle.decode_short.proofs.store_3.Statement.{statement}
@@ -21,7 +19,10 @@ same-length c = search needs
 returns : tie.Need-returns
 returns c =
     let s = c .before .before .before .before .before .before .before .before .before .before .before .before .before in
-    stored-three (s .args .s .now) (c .before .before .before .before .before .before .before .before .before .before .put .last .0) (c .before .before .before .before .before .before .put2 .last .0) (c .before .before .put3 .last .0) (s .args .a) (s .args .c0) (s .args .c1) (s .pre .0) (c .before .before .before .before .before .before .before .before .before .before .put .ensures) (c .before .before .before .before .before .before .put2 .ensures) (c .before .before .put3 .ensures)
+    let a = c .before .before .before .before .before .before .before .before .before .before .put in
+    let b = c .before .before .before .before .before .before .put2 in
+    let e = c .before .before .put3 in
+    stored-three (s .args .s .now) (a .last .0) (b .last .0) (e .last .0) (s .args .a) (s .args .c0) (s .args .c1) (s .pre .0) (a .ensures) (b .ensures) (e .ensures)
 
 pub store-3-spec : {M : Type 1} → statement M
 store-3-spec = tie.close (tie.spec put-requires put-requires-2 put-requires-3 same-length returns)

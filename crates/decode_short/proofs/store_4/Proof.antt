@@ -1,5 +1,4 @@
 -- `store_4` meets its contract: a shorter message, and one symbol more.
-use native.Mathlib.Omega.{arith}
 use mathlib.Core.Path.{refl}
 use Rattle.decode_short_candidate.specs.Candidate.{message}
 use Rattle.decode_short.proofs.SettleLaws.{stored-next}
@@ -20,7 +19,11 @@ returns : tie.Need-returns
 unfolding message
 returns c =
     let s = c .before .before .before .before .before .before .before .before .before in
-    stored-next 3 (message (s .args .a) (s .args .c0) (s .args .c1) 0 0 0) (message (s .args .a) (s .args .c0) (s .args .c1) (s .args .c2) 0 0) (s .args .s .now) (c .before .before .before .before .before .before .store-3 .last .0) (c .before .before .put .last .0) (s .args .c2) (s .pre .0) (c .before .before .before .before .before .before .store-3 .ensures) refl refl (c .before .before .put .ensures)
+    let f = c .before .before .before .before .before .before .store-3 in
+    let e = c .before .before .put in
+    let shorter = message (s .args .a) (s .args .c0) (s .args .c1) 0 0 0 in
+    let longer = message (s .args .a) (s .args .c0) (s .args .c1) (s .args .c2) 0 0 in
+    stored-next 3 shorter longer (s .args .s .now) (f .last .0) (e .last .0) (s .args .c2) (s .pre .0) (f .ensures) refl refl (e .ensures)
 
 pub store-4-spec : {M : Type 1} → statement M
 store-4-spec = tie.close (tie.spec store-3-requires put-requires same-length returns)

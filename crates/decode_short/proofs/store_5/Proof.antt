@@ -1,5 +1,4 @@
 -- `store_5` meets its contract: a shorter message, and one symbol more.
-use native.Mathlib.Omega.{arith}
 use mathlib.Core.Path.{refl}
 use Rattle.decode_short_candidate.specs.Candidate.{message}
 use Rattle.decode_short.proofs.SettleLaws.{stored-next}
@@ -20,7 +19,11 @@ returns : tie.Need-returns
 unfolding message
 returns c =
     let s = c .before .before .before .before .before .before .before .before .before in
-    stored-next 4 (message (s .args .a) (s .args .c0) (s .args .c1) (s .args .c2) 0 0) (message (s .args .a) (s .args .c0) (s .args .c1) (s .args .c2) (s .args .c3) 0) (s .args .s .now) (c .before .before .before .before .before .before .store-4 .last .0) (c .before .before .put .last .0) (s .args .c3) (s .pre .0) (c .before .before .before .before .before .before .store-4 .ensures) refl refl (c .before .before .put .ensures)
+    let f = c .before .before .before .before .before .before .store-4 in
+    let e = c .before .before .put in
+    let shorter = message (s .args .a) (s .args .c0) (s .args .c1) (s .args .c2) 0 0 in
+    let longer = message (s .args .a) (s .args .c0) (s .args .c1) (s .args .c2) (s .args .c3) 0 in
+    stored-next 4 shorter longer (s .args .s .now) (f .last .0) (e .last .0) (s .args .c3) (s .pre .0) (f .ensures) refl refl (e .ensures)
 
 pub store-5-spec : {M : Type 1} → statement M
 store-5-spec = tie.close (tie.spec store-4-requires put-requires same-length returns)
