@@ -1,5 +1,3 @@
 pub mod StreamLaws
-pub mod ByteLaws
-pub mod PartLaws
+pub mod LineLaws
 pub mod TurnLaws
-pub mod CountLaws

@@ -1,18 +1,20 @@
 // The session list of an input that comes in chunks. What is kept between them does not grow with the input.
-use libc::EINTR;
 use list_line::Listed;
 use session::Receiver;
 use session::ReceiverOpened;
 use session::Reference;
+use text_chunks::Next;
 ghost use mathlib.Core.Path.{_≡_};
 ghost use mathlib.Core.Bool.{false};
 ghost use Prim.Native.Nat.{_≤_};
 ghost use lib.ListN.{length, take};
 ghost use Rattle.text_buffer.specs.Text.{put};
 ghost use Rattle.list_line.specs.Listing.{opened};
-ghost use Rattle.list_stream.specs.Stream.{fed, fedText, fedCount, endText, progress, Fit};
-ghost use Rattle.list_stream.specs.Turns.{given, afterFailure, afterPart, Part, Turned};
-ghost use Rattle.list_stream.specs.Parts.{keepAll, hasSlot, hasMiss, Ended, Goes, Took};
+ghost use Rattle.text_chunks.specs.Chunks.{fed, fedText, fedCount, endText};
+ghost use Rattle.text_chunks.specs.Reading.{given};
+ghost use Rattle.list_stream.specs.Stream.{reader, progress, Fit};
+ghost use Rattle.list_stream.specs.Turns.{Part, Turned};
+ghost use Rattle.list_stream.specs.Parts.{hasSlot, hasMiss, Ended, Goes, Reads};
 
 // A listing on its way: the session, how many bytes of the line that has begun are kept, and whether the reading has ended.
 pub struct Lister {
@@ -59,23 +61,6 @@ pub fn start() -> Lister
     }
 }
 
-// Keeps the bytes of a line, as far as there is room for them, and returns how many are kept then.
-fn keep_part(kept: usize, line: &mut [u8], part: &[u8]) -> usize
-    requires { ⌜ (kept ≤ 17) × (length (now line) ≡ 17) ⌝ }
-    ensures part { λ r. ⌜ take r (now (line .exit)) ≡ keepAll (take kept (now (line .entry))) (now (part .entry)) ⌝ }
-    ensures bound { λ r. ⌜ r ≤ 17 ⌝ }
-{
-    let mut n = kept;
-    for i in 0..part.len() {
-        if n == 17 {
-            return n;
-        }
-        line[n] = part[i];
-        n += 1;
-    }
-    n
-}
-
 // Whether the bytes begin with a slot's line.
 fn has_slot(bytes: &[u8]) -> bool
     ensures { λ r. ⌜ r ≡ hasSlot (now (bytes .entry)) ⌝ }
@@ -110,14 +95,14 @@ fn after_line(listed: Listed, read: usize) -> Step
 // Reads to the end of the line, or of the bytes. A miss is listed where it stands.
 fn read_part(lister: Lister, line: &mut [u8], bytes: &[u8], out: &mut [u8], at: usize) -> Step
     requires { ⌜ Goes lister (now line) (now bytes) (now out) at ⌝ }
-    ensures { λ r. ⌜ Took (progress lister (now (line .entry))) (now (bytes .entry)) (now (out .entry)) at r (now (line .exit)) (now (out .exit)) ⌝ }
+    ensures { λ r. ⌜ Reads (progress lister (now (line .entry))) (now (bytes .entry)) (now (out .entry)) at r (now (line .exit)) (now (out .exit)) ⌝ }
 {
     let n = text_lines::line_length(bytes);
     let begun = lister.kept;
     if begun == 0 && has_miss(n, bytes) {
         return after_line(list_line::list_miss(lister.receiver, out, at), 2);
     }
-    let kept = keep_part(begun, line, &bytes[..n]);
+    let kept = text_chunks::keep_part(begun, line, &bytes[..n]);
     if n == bytes.len() {
         let receiver = lister.receiver;
         return Step {
@@ -139,7 +124,7 @@ fn read_part(lister: Lister, line: &mut [u8], bytes: &[u8], out: &mut [u8], at: 
 // Reads to the end of the line, or of the bytes. A slot is listed where it stands.
 fn read_line(lister: Lister, line: &mut [u8], bytes: &[u8], out: &mut [u8], at: usize) -> Step
     requires { ⌜ Goes lister (now line) (now bytes) (now out) at ⌝ }
-    ensures { λ r. ⌜ Took (progress lister (now (line .entry))) (now (bytes .entry)) (now (out .entry)) at r (now (line .exit)) (now (out .exit)) ⌝ }
+    ensures { λ r. ⌜ Reads (progress lister (now (line .entry))) (now (bytes .entry)) (now (out .entry)) at r (now (line .exit)) (now (out .exit)) ⌝ }
 {
     let begun = lister.kept;
     if begun == 0 && has_slot(bytes) {
@@ -154,10 +139,10 @@ fn read_line(lister: Lister, line: &mut [u8], bytes: &[u8], out: &mut [u8], at: 
 // Lists the bytes of a chunk, up to its end, the end of the reading, or the byte before which the buffer has no room for a line.
 pub fn feed(lister: Lister, line: &mut [u8], chunk: &[u8], out: &mut [u8]) -> Fed
     requires { ⌜ Fit lister (now line) ⌝ }
-    ensures state { λ r. ⌜ progress (r .lister) (now (line .exit)) ≡ fed (progress lister (now (line .entry))) (take (r .read) (now (chunk .entry))) ⌝ }
-    ensures count { λ r. ⌜ r .written ≡ length (fedText (progress lister (now (line .entry))) (take (r .read) (now (chunk .entry)))) ⌝ }
-    ensures buffer { λ r. ⌜ now (out .exit) ≡ put (now (out .entry)) 0 (fedText (progress lister (now (line .entry))) (take (r .read) (now (chunk .entry)))) ⌝ }
-    ensures read { λ r. ⌜ r .read ≡ fedCount (progress lister (now (line .entry))) (length (now (out .entry))) (now (chunk .entry)) ⌝ }
+    ensures state { λ r. ⌜ progress (r .lister) (now (line .exit)) ≡ fed reader (progress lister (now (line .entry))) (take (r .read) (now (chunk .entry))) ⌝ }
+    ensures count { λ r. ⌜ r .written ≡ length (fedText reader (progress lister (now (line .entry))) (take (r .read) (now (chunk .entry)))) ⌝ }
+    ensures buffer { λ r. ⌜ now (out .exit) ≡ put (now (out .entry)) 0 (fedText reader (progress lister (now (line .entry))) (take (r .read) (now (chunk .entry)))) ⌝ }
+    ensures read { λ r. ⌜ r .read ≡ fedCount reader (progress lister (now (line .entry))) (length (now (out .entry))) (now (chunk .entry)) ⌝ }
     ensures bounds { λ r. ⌜ (r .read ≤ length (now (chunk .entry))) × (r .written ≤ length (now (out .exit))) ⌝ }
     ensures fit { λ r. ⌜ Fit (r .lister) (now (line .exit)) ⌝ }
 {
@@ -195,8 +180,8 @@ pub fn feed(lister: Lister, line: &mut [u8], chunk: &[u8], out: &mut [u8]) -> Fe
 // Lists the last line, which lacks its newline, at the end of the input.
 pub fn finish(lister: Lister, line: &[u8], out: &mut [u8]) -> usize
     requires { ⌜ Fit lister (now line) × (64 ≤ length (now out)) ⌝ }
-    ensures count { λ r. ⌜ r ≡ length (endText (progress lister (now (line .entry)))) ⌝ }
-    ensures buffer { λ r. ⌜ now (out .exit) ≡ put (now (out .entry)) 0 (endText (progress lister (now (line .entry)))) ⌝ }
+    ensures count { λ r. ⌜ r ≡ length (endText reader (progress lister (now (line .entry)))) ⌝ }
+    ensures buffer { λ r. ⌜ now (out .exit) ≡ put (now (out .entry)) 0 (endText reader (progress lister (now (line .entry)))) ⌝ }
     ensures bound { λ r. ⌜ r ≤ length (now (out .exit)) ⌝ }
 {
     let over = lister.over;
@@ -211,42 +196,11 @@ pub fn finish(lister: Lister, line: &[u8], out: &mut [u8]) -> usize
     listed.next
 }
 
-// What comes after a turn: a read, the rest of this chunk from a place on, or nothing more, since the listing has ended or the read failed.
-pub enum Next {
-    Read,
-    Rest(usize),
-    End,
-    Failed,
-}
-
 // What a turn leaves: the lister, how many bytes of the output are to be written, and what comes next.
 pub struct Outcome {
     pub lister: Lister,
     pub written: usize,
     pub next: Next,
-}
-
-// What comes after a failed read: another one where a signal only interrupted it.
-fn after_failure(error: i32) -> Next
-    ensures { λ r. ⌜ r ≡ afterFailure error ⌝ }
-{
-    if error == EINTR {
-        return Next::Read;
-    }
-    Next::Failed
-}
-
-// What comes after the bytes of a chunk up to a place.
-fn after_part(over: bool, at: usize, end: usize) -> Next
-    ensures { λ r. ⌜ r ≡ afterPart over at end ⌝ }
-{
-    if over {
-        return Next::End;
-    }
-    if at == end {
-        return Next::Read;
-    }
-    Next::Rest(at)
 }
 
 // Lists the bytes from a place on, as far as the output has room.
@@ -256,7 +210,7 @@ fn list_part(lister: Lister, line: &mut [u8], bytes: &[u8], at: usize, out: &mut
 {
     let fed = feed(lister, line, &bytes[at..], out);
     let state = fed.lister;
-    let next = after_part(state.over, at + fed.read, bytes.len());
+    let next = text_chunks::after_part(state.over, at + fed.read, bytes.len());
     Outcome {
         lister: state,
         written: fed.written,
@@ -282,7 +236,7 @@ pub fn turn(
         return Outcome {
             lister,
             written: 0,
-            next: after_failure(error),
+            next: text_chunks::after_failure(error),
         };
     }
     let n = got as usize;

@@ -4,9 +4,9 @@ use mathlib.Core.Path.{_≡_, ap, sym, subst}
 use native.Mathlib.Omega.{arith}
 use lib.IntN.{ℤ, pos, negsuc}
 use Rattle.libc.specs.Io.{Moved}
-use Rattle.list_stream.specs.declared.Next.{Next}
-use Rattle.list_stream.specs.declared.Next.the-variants.{Read, Rest, End, Failed}
-use Rattle.list_stream.specs.Turns.{given, IfRest}
+use Rattle.text_chunks.specs.declared.Next.{Next}
+use Rattle.text_chunks.specs.declared.Next.the-variants.{Read, Rest, End, Failed}
+use Rattle.text_chunks.specs.Reading.{given, IfRest}
 
 -- the code hands it on as z
 pub moved-given : (r z : ℤ) (n m : ℕ) → z ≡ r → Moved n r → m ≡ n → given z ≤ m

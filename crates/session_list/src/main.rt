@@ -3,12 +3,12 @@
 // and says so on standard error: a list that is cut short looks like a whole one.
 use libc::STDIN_FILENO;
 use libc::STDOUT_FILENO;
-use list_stream::Next;
+use text_chunks::Next;
 ghost use mathlib.Core.Path.{_≡_};
 ghost use mathlib.Core.Bool.{true, false};
 ghost use Prim.Native.Nat.{_≤_};
 ghost use lib.ListN.{length};
-ghost use Rattle.list_stream.specs.Turns.{given, placeOf, goesOn, IfRest};
+ghost use Rattle.text_chunks.specs.Reading.{given, placeOf, goesOn, IfRest};
 
 // Where the listing stands: what the last read gave, and its error; the place in the chunk up to which it is listed; whether it goes on.
 struct Place {

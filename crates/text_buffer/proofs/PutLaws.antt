@@ -19,6 +19,11 @@ pub length-put : (b : List ℕ) (at : ℕ) (t : List ℕ) → at + length t ≤ 
 unfolding put
 length-put b at t h = simp (length-append, length-take, length-drop) (omega arith)
 
+-- a text that is put into a buffer of the same length had room
+pub put-fits : (b : List ℕ) (at : ℕ) (t : List ℕ) → at ≤ length b → length (put b at t) ≡ length b → at + length t ≤ length b
+unfolding put
+put-fits b at t h e = omega (arith, simp (length-append, length-take, length-drop) at e)
+
 -- what stands before the place where the text ends, and behind it
 front : (b : List ℕ) (at : ℕ) (t : List ℕ) → at + length t ≤ length b → length (take at b ++ t) ≡ at + length t
 front b at t h = simp (length-append, length-take) (omega arith)

@@ -4,15 +4,15 @@ use mathlib.Core.Path.{sym, _∙_}
 use native.Mathlib.Nat.{zero-add}
 use native.Mathlib.Omega.{arith}
 use lib.ListN.{length, take}
-use Rattle.list_stream.specs.Stream.{progress, Fit}
-use Rattle.list_stream.proofs.PartLaws.{remaining, remaining-length, Run, run-none, run-more, run-done}
-use Rattle.list_stream.proofs.CountLaws.{count-over, count-full, count-end}
+use Rattle.text_chunks.proofs.PartLaws.{remaining, remaining-length, Run, run-none, run-more, run-done}
+use Rattle.list_stream.specs.Stream.{reader, progress, Fit}
+use Rattle.text_chunks.proofs.CountLaws.{count-over, count-full, count-end}
 use Rattle.list_stream.proofs.feed.Statement.{statement}
 use Rattle.list_stream.proofs.feed.Tie as tie
 
 abbrev Inv-loop : tie.InvT-loop
 Inv-loop line₀ chunk out₀ state₀ read₀ written₀ line out state read written =
-    (read ≤ length chunk) × Fit state line × Run (progress state₀ line₀) out₀ (take read chunk) (progress state line) written out
+    (read ≤ length chunk) × Fit state line × Run reader (progress state₀ line₀) out₀ (take read chunk) (progress state line) written out
 
 abbrev μ-loop : tie.MeasureT-loop
 μ-loop line₀ chunk out₀ state₀ read₀ written₀ line out state read written = length chunk - read
@@ -20,7 +20,7 @@ abbrev μ-loop : tie.MeasureT-loop
 loop-holds : tie.Need-loop-holds Inv-loop μ-loop
 loop-holds c =
     let s = c .before .before .before in
-    (omega arith, s .pre, run-none _ _)
+    (omega arith, s .pre, run-none reader _ _)
 
 same-length : tie.Need-same-length Inv-loop μ-loop
 same-length c =
@@ -35,7 +35,7 @@ unfolding progress
 returns c =
     let l = c .before .before in
     let r = l .loop .inv .2 in
-    let done = run-done _ _ _ (l .loop .read) _ _ _ (l .loop .inv .0) r (count-over (progress (l .loop .state) (l .loop .line)) _ _ (c .if1 .taken)) in
+    let done = run-done reader _ _ _ (l .loop .read) _ _ _ (l .loop .inv .0) r (count-over reader (progress (l .loop .state) (l .loop .line)) _ _ (c .if1 .taken)) in
     (r .state, (r .text .place ∙ zero-add _, (r .text .buffer, (done, ((l .loop .inv .0, omega (arith, r .room, r .size)), l .loop .inv .1)))))
 
 sub-if2 : tie.Need-sub-if2 Inv-loop μ-loop
@@ -53,7 +53,7 @@ returns-2 : tie.Need-returns-2 Inv-loop μ-loop
 returns-2 c =
     let l = c .before .before .before in
     let r = l .loop .inv .2 in
-    let done = run-done _ _ _ (l .loop .read) _ _ _ (l .loop .inv .0) r (count-full _ _ _ (omega (arith, c .if2 .taken, r .size, r .room))) in
+    let done = run-done reader _ _ _ (l .loop .read) _ _ _ (l .loop .inv .0) r (count-full reader _ _ _ (omega (arith, c .if2 .taken, r .size, r .room))) in
     (r .state, (r .text .place ∙ zero-add _, (r .text .buffer, (done, ((l .loop .inv .0, omega (arith, r .room, r .size)), l .loop .inv .1)))))
 
 sub-read-line : tie.Need-sub-read-line Inv-loop μ-loop
@@ -87,7 +87,7 @@ add-read c =
     let l = d .before .before .before .before .before .before .before in
     let s = l .before .before .before .before in
     let n = remaining-length (s .args .chunk .now) (l .loop .read) in
-    omega (arith, n, d .read-line .ensures .bound, l .loop .inv .0, s .good)
+    omega (arith, n, d .read-line .ensures .took .bound, l .loop .inv .0, s .good)
 
 loop-less : tie.Need-loop-less Inv-loop μ-loop
 unfolding remaining
@@ -95,7 +95,7 @@ loop-less c =
     let d = c .before .before .before .before .before .before in
     let l = d .before .before .before .before .before .before .before in
     let n = remaining-length (l .before .before .before .before .args .chunk .now) (l .loop .read) in
-    omega (arith, n, d .read-line .ensures .some, d .read-line .ensures .bound, l .loop .inv .0)
+    omega (arith, n, d .read-line .ensures .took .some, d .read-line .ensures .took .bound, l .loop .inv .0)
 
 loop-again : tie.Need-loop-again Inv-loop μ-loop
 unfolding remaining
@@ -105,9 +105,9 @@ loop-again c =
     let s = l .before .before .before .before in
     let n = remaining-length (s .args .chunk .now) (l .loop .read) in
     let e = d .read-line .ensures in (
-      omega (arith, n, e .bound, l .loop .inv .0),
+      omega (arith, n, e .took .bound, l .loop .inv .0),
       e .fit,
-      run-more _ (s .args .out .now) (s .args .chunk .now) (l .loop .read) _ _ _ _ _ _ (l .loop .inv .2) e (d .read-line .kept .1 .1 .1 .0),
+      run-more reader _ (s .args .out .now) (s .args .chunk .now) (l .loop .read) _ _ _ _ _ _ _ (l .loop .inv .2) (e .took) (d .read-line .kept .1 .1 .1 .0),
     )
 
 same-length-5 : tie.Need-same-length-5 Inv-loop μ-loop
@@ -122,7 +122,7 @@ returns-3 : tie.Need-returns-3 Inv-loop μ-loop
 returns-3 c =
     let l = c .before in
     let r = l .loop .inv .2 in
-    let done = run-done _ _ _ (l .loop .read) _ _ _ (l .loop .inv .0) r (count-end _ _ _ (l .loop .read) (omega (arith, c .loop-test .left))) in
+    let done = run-done reader _ _ _ (l .loop .read) _ _ _ (l .loop .inv .0) r (count-end reader _ _ _ (l .loop .read) (omega (arith, c .loop-test .left))) in
     (r .state, (r .text .place ∙ zero-add _, (r .text .buffer, (done, ((l .loop .inv .0, omega (arith, r .room, r .size)), l .loop .inv .1)))))
 
 pub feed-spec : {M : Type 1} → statement M

@@ -4,7 +4,8 @@ use native.Mathlib.Omega.{arith}
 use lib.ListN.{take}
 use lib.Seq.{length-take-le}
 use Rattle.text_lines.specs.Line.{slot, wordOf}
-use Rattle.list_stream.proofs.PartLaws.{slot-ends, slot-line, line-fit, took-line}
+use Rattle.list_stream.proofs.LineLaws.{slot-ends, slot-line}
+use Rattle.list_stream.proofs.StreamLaws.{line-fit, reads-line}
 use borrow.Author.Needs.{needs}
 use Rattle.list_stream.proofs.read_line.Statement.{statement}
 use Rattle.list_stream.proofs.read_line.Tie as tie
@@ -46,7 +47,7 @@ returns c =
     let yes = sym (h .has-slot .ensures) ∙ i .if2 .taken in
     let f = slot-ends (a .bytes .now) yes in
     let e = d .list-slot .ensures in
-    took-line (a .lister) (a .line .now) (a .line .now) (a .bytes .now) (a .out .now) (a .at) (s .pre) (s .pre .fit .size) (slot (wordOf (take 16 (a .bytes .now))))
+    reads-line (a .lister) (a .line .now) (a .line .now) (a .bytes .now) (a .out .now) (a .at) (s .pre) (s .pre .fit .size) (slot (wordOf (take 16 (a .bytes .now))))
     (d .list-slot .result) 17 _ _ (omega (arith, f .1)) (omega (arith, f .0, f .1)) (slot-line (a .line .now) (a .bytes .now) (a .lister .kept) (h .before .if1 .taken) yes)
     (e .0) (e .1 .0) (record { place = e .1 .1 .0; buffer = e .1 .1 .1 }) (c .after-line .ensures)
 

@@ -5,8 +5,9 @@ use lib.ListN.{take}
 use lib.Seq.{length-take-le}
 use Rattle.text_lines.specs.Line.{miss, readLine}
 use Rattle.text_lines.proofs.EndingLaws.{line-within}
-use Rattle.list_stream.specs.Parts.{keepAll}
-use Rattle.list_stream.proofs.PartLaws.{miss-ends, miss-line, line-fit, took-line, took-part}
+use Rattle.text_chunks.specs.Chunks.{keepAll}
+use Rattle.list_stream.proofs.LineLaws.{miss-ends, miss-line}
+use Rattle.list_stream.proofs.StreamLaws.{line-fit, reads-line, reads-part}
 use borrow.Author.Needs.{needs}
 use Rattle.list_stream.proofs.read_part.Statement.{statement}
 use Rattle.list_stream.proofs.read_part.Tie as tie
@@ -40,7 +41,7 @@ returns c =
     let yes = sym (i .before .has-miss .ensures) ∙ i .if2 .taken in
     let f = miss-ends (n .line-length .result) (a .bytes .now) (n .line-length .ensures) yes in
     let e = d .list-miss .ensures in
-    took-line (a .lister) (a .line .now) (a .line .now) (a .bytes .now) (a .out .now) (a .at) (s .pre) (s .pre .fit .size) miss (d .list-miss .result) 2 _ _
+    reads-line (a .lister) (a .line .now) (a .line .now) (a .bytes .now) (a .out .now) (a .at) (s .pre) (s .pre .fit .size) miss (d .list-miss .result) 2 _ _
     (omega (arith, f .1)) (omega (arith, f .0, f .1)) (miss-line (a .line .now) (a .bytes .now) (a .lister .kept) (n .line-length .result) (t .if1 .taken) (n .line-length .ensures) yes)
     (e .0) (e .1 .0) (record { place = e .1 .1 .0; buffer = e .1 .1 .1 }) (c .after-line .ensures)
 
@@ -63,7 +64,7 @@ returns-2 c =
     let s = n .before .before .before .before in
     let a = s .args in
     let e = k .keep-part .ensures in
-    took-part (a .lister) (a .line .now) (k .keep-part .last .1 .0) (a .bytes .now) (a .out .now) (a .at) (s .pre) (k .keep-part .kept .1 .0 ∙ s .pre .fit .size)
+    reads-part (a .lister) (a .line .now) (k .keep-part .last .1 .0) (a .bytes .now) (a .out .now) (a .at) (s .pre) (k .keep-part .kept .1 .0 ∙ s .pre .fit .size)
     (k .keep-part .result) (n .line-length .result) (n .line-length .ensures) (c .before .if3 .taken) (e .1) (e .0)
 
 slice-reshare-prefix-list-line : tie.Need-slice-reshare-prefix-list-line
@@ -108,7 +109,7 @@ returns-3 c =
     let a = s .args in
     let e = d .list-line .ensures in
     let l = n .line-length .ensures in
-    took-line (a .lister) (a .line .now) (k .keep-part .last .1 .0) (a .bytes .now) (a .out .now) (a .at) (s .pre) (k .keep-part .kept .1 .0 ∙ s .pre .fit .size) _
+    reads-line (a .lister) (a .line .now) (k .keep-part .last .1 .0) (a .bytes .now) (a .out .now) (a .at) (s .pre) (k .keep-part .kept .1 .0 ∙ s .pre .fit .size) _
     (d .list-line .result) _ _ _ (omega (arith, l)) (omega (arith, l, i .if3 .left, line-within (a .bytes .now)))
     (ap readLine (sym (k .keep-part .ensures .0 ∙ ap (λ m. keepAll (take (a .lister .kept) (a .line .now)) (take m (a .bytes .now))) l)))
     (e .0) (e .1 .0) (record { place = e .1 .1 .0; buffer = e .1 .1 .1 }) (c .after-line2 .ensures)

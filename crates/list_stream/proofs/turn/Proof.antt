@@ -3,8 +3,10 @@ use mathlib.Core.Path.{refl, sym, ap, _∙_}
 use native.Mathlib.Omega.{arith}
 use lib.Seq.{length-take-le}
 use mir.Facts.{toZ-ofZ}
-use Rattle.list_stream.specs.Turns.{afterFailure}
-use Rattle.list_stream.proofs.TurnLaws.{cast-read, cast-fits, given-room, no-text, turned-failed, turned-end, turned-part}
+use Rattle.text_buffer.proofs.PutLaws.{put-none}
+use Rattle.text_chunks.specs.Reading.{afterFailure}
+use Rattle.text_chunks.proofs.ReadingLaws.{cast-read, cast-fits, given-room}
+use Rattle.list_stream.proofs.TurnLaws.{turned-failed, turned-end, turned-part}
 use borrow.Author.Needs.{needs}
 use Rattle.list_stream.proofs.turn.Statement.{statement}
 use Rattle.list_stream.proofs.turn.Tie as tie
@@ -17,7 +19,7 @@ returns c =
     let i = c .before in
     let s = i .before .before .before .before in
     turned-failed _ _ _ _ _ _ _ _ _ (s .args .got) _ (toZ-ofZ (s .fits .got)) (i .if1 .taken)
-    (record { lister = refl; kept = refl; count = refl; buffer = no-text _; then = c .after-failure .ensures ∙ ap afterFailure (toZ-ofZ (s .fits .error)); room = omega arith; fit = s .pre .0 })
+    (record { lister = refl; kept = refl; count = refl; buffer = sym (put-none _ 0); then = c .after-failure .ensures ∙ ap afterFailure (toZ-ofZ (s .fits .error)); room = omega arith; fit = s .pre .0 })
 
 cast-n : tie.Need-cast-n
 cast-n c =

@@ -1,6 +1,6 @@
 -- `end` meets its contract: nothing was read.
 use mathlib.Core.Path.{refl}
-use Rattle.list_stream.specs.Turns.{given}
+use Rattle.text_chunks.specs.Reading.{given}
 use Rattle.session_list.proofs.end.Statement.{statement}
 use Rattle.session_list.proofs.end.Tie as tie
 

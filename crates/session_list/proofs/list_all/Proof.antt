@@ -7,7 +7,7 @@ use mir.Syntax.{w64}
 use mir.Facts.{toZ-ofZ}
 use Rattle.list_line.specs.Listing.{opened}
 use Rattle.list_stream.specs.Stream.{Fit}
-use Rattle.list_stream.specs.Turns.{given}
+use Rattle.text_chunks.specs.Reading.{given}
 use Rattle.list_stream.proofs.TurnLaws.{turned-fits}
 use Rattle.session_list.proofs.ReadLaws.{back-room, back-place}
 use borrow.Author.Needs.{needs}

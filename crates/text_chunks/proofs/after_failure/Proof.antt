@@ -1,7 +1,7 @@
 -- `after_failure` meets its contract, by the error.
-use Rattle.list_stream.proofs.TurnLaws.{failed-again, failed-told}
-use Rattle.list_stream.proofs.after_failure.Statement.{statement}
-use Rattle.list_stream.proofs.after_failure.Tie as tie
+use Rattle.text_chunks.proofs.ReadingLaws.{failed-again, failed-told}
+use Rattle.text_chunks.proofs.after_failure.Statement.{statement}
+use Rattle.text_chunks.proofs.after_failure.Tie as tie
 
 returns : tie.Need-returns
 returns c = failed-again (c .before .args .error) (c .if1 .taken) (c .before .fits .error)

@@ -3,11 +3,11 @@ use Prim.Native.Nat.{_≤_, _<_, _-_}
 use mathlib.Core.Path.{_≡_, refl, sym, _∙_}
 use native.Mathlib.Omega.{arith}
 use lib.ListN.{length, take, drop, length-set}
-use Rattle.list_stream.specs.Parts.{keepAll}
-use Rattle.list_stream.proofs.PartLaws.{keeps-next, keeps-done, keeps-all}
+use Rattle.text_chunks.specs.Chunks.{keepAll}
+use Rattle.text_chunks.proofs.KeepLaws.{keeps-next, keeps-done, keeps-all}
 use borrow.Author.Needs.{needs}
-use Rattle.list_stream.proofs.keep_part.Statement.{statement}
-use Rattle.list_stream.proofs.keep_part.Tie as tie
+use Rattle.text_chunks.proofs.keep_part.Statement.{statement}
+use Rattle.text_chunks.proofs.keep_part.Tie as tie
 
 abbrev Inv-loop : tie.InvT-loop
 Inv-loop kept line₀ part n₀ i₀ i-end line n i =

@@ -1,7 +1,7 @@
 -- `after_part` meets its contract, by its two tests.
-use Rattle.list_stream.proofs.TurnLaws.{part-over, part-last, part-rest}
-use Rattle.list_stream.proofs.after_part.Statement.{statement}
-use Rattle.list_stream.proofs.after_part.Tie as tie
+use Rattle.text_chunks.proofs.ReadingLaws.{part-over, part-last, part-rest}
+use Rattle.text_chunks.proofs.after_part.Statement.{statement}
+use Rattle.text_chunks.proofs.after_part.Tie as tie
 
 returns : tie.Need-returns
 returns c = part-over _ _ _ (c .if1 .taken)
