@@ -1,3 +1,2 @@
 pub mod StreamLaws
-pub mod LineLaws
 pub mod TurnLaws

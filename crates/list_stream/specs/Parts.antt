@@ -1,27 +1,16 @@
 -- What the code does with the bytes up to the end of a line.
 use Prim.Native.Nat.{ℕ, _+_, _≤_, _<_}
 use mathlib.Core.Path.{_≡_}
-use mathlib.Core.Bool.{Bool, false, _&&_}
+use mathlib.Core.Bool.{false}
 use mathlib.Core.List.{List}
-use lib.Dec.{eqb, ltb}
-use lib.ListN.{length, take}
-use Rattle.code_theory.specs.Sum.{at}
+use lib.ListN.{length}
 use Rattle.session_receiver.specs.declared.Receiver.{Receiver}
-use Rattle.text_lines.specs.Line.{isDigits}
 use Rattle.text_chunks.specs.Chunks.{Progress}
 use Rattle.text_chunks.specs.Parts.{Took}
 use Rattle.list_line.specs.declared.Listed.{Listed}
 use Rattle.list_stream.specs.declared.Lister.{Lister}
 use Rattle.list_stream.specs.declared.Step.{Step}
 use Rattle.list_stream.specs.Stream.{reader, progress, Fit}
-
--- whether bytes begin with a slot's line
-unfoldable pub hasSlot : List ℕ → Bool
-hasSlot bytes = ltb 16 (length bytes) && (eqb (at bytes 16) 10 && isDigits (take 16 bytes))
-
--- whether bytes, n of which stand before the first newline, begin with a miss's line
-unfoldable pub hasMiss : ℕ → List ℕ → Bool
-hasMiss n bytes = eqb n 1 && (ltb 1 (length bytes) && eqb (at bytes 0) 45)
 
 -- what a line that is listed leaves
 pub record Ended (listed : Listed) (count : ℕ) (r : Step) : Type 0 where

@@ -14,7 +14,7 @@ ghost use Rattle.text_chunks.specs.Chunks.{fed, fedText, fedCount, endText};
 ghost use Rattle.text_chunks.specs.Reading.{given};
 ghost use Rattle.list_stream.specs.Stream.{reader, progress, Fit};
 ghost use Rattle.list_stream.specs.Turns.{Part, Turned};
-ghost use Rattle.list_stream.specs.Parts.{hasSlot, hasMiss, Ended, Goes, Reads};
+ghost use Rattle.list_stream.specs.Parts.{Ended, Goes, Reads};
 
 // A listing on its way: the session, how many bytes of the line that has begun are kept, and whether the reading has ended.
 pub struct Lister {
@@ -61,20 +61,6 @@ pub fn start() -> Lister
     }
 }
 
-// Whether the bytes begin with a slot's line.
-fn has_slot(bytes: &[u8]) -> bool
-    ensures { λ r. ⌜ r ≡ hasSlot (now (bytes .entry)) ⌝ }
-{
-    16 < bytes.len() && (bytes[16] == b'\n' && text_lines::is_digits(&bytes[..16]))
-}
-
-// Whether the bytes, n of which stand before the first newline, begin with a miss's line.
-fn has_miss(n: usize, bytes: &[u8]) -> bool
-    ensures { λ r. ⌜ r ≡ hasMiss n (now (bytes .entry)) ⌝ }
-{
-    n == 1 && (1 < bytes.len() && bytes[0] == b'-')
-}
-
 // What a line that is listed leaves.
 fn after_line(listed: Listed, read: usize) -> Step
     requires { ⌜ (listed .receiver .q ≡ 4) × (listed .receiver .m ≡ 4) ⌝ }
@@ -99,7 +85,7 @@ fn read_part(lister: Lister, line: &mut [u8], bytes: &[u8], out: &mut [u8], at: 
 {
     let n = text_lines::line_length(bytes);
     let begun = lister.kept;
-    if begun == 0 && has_miss(n, bytes) {
+    if begun == 0 && text_lines::has_miss(n, bytes) {
         return after_line(list_line::list_miss(lister.receiver, out, at), 2);
     }
     let kept = text_chunks::keep_part(begun, line, &bytes[..n]);
@@ -127,7 +113,7 @@ fn read_line(lister: Lister, line: &mut [u8], bytes: &[u8], out: &mut [u8], at: 
     ensures { λ r. ⌜ Reads (progress lister (now (line .entry))) (now (bytes .entry)) (now (out .entry)) at r (now (line .exit)) (now (out .exit)) ⌝ }
 {
     let begun = lister.kept;
-    if begun == 0 && has_slot(bytes) {
+    if begun == 0 && text_lines::has_slot(bytes) {
         return after_line(
             list_line::list_slot(lister.receiver, &bytes[..16], out, at),
             17,

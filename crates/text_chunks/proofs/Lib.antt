@@ -1,4 +1,5 @@
 pub mod KeepLaws
+pub mod LineLaws
 pub mod ChunkLaws
 pub mod StepLaws
 pub mod CountLaws

@@ -1,4 +1,4 @@
--- Where a line ends: byte by byte, and behind 16 digits. Assumes nothing.
+-- Where a line ends: byte by byte, behind 16 digits and behind a miss. Assumes nothing.
 use Prim.Native.Nat.{ℕ, zero, suc, _+_, _≤_, _<_}
 use mathlib.Core.Path.{_≡_, refl, ap, sym, _∙_}
 use mathlib.Core.Bool.{Bool, true, false, cond}
@@ -6,15 +6,15 @@ use mathlib.Core.List.{List, [], _∷_}
 use native.Mathlib.Nat.{not-suc-le-zero, le-of-suc-le-suc}
 use native.Mathlib.Numerals.{add-one}
 use native.Mathlib.Omega.{arith}
-use borrow.Author.Tests.{eq-eqb, ne-eqb, eqb-true}
-use lib.Dec.{eqb}
+use borrow.Author.Tests.{eq-eqb, ne-eqb, eqb-true, ltb-true}
+use lib.Dec.{eqb, ltb}
 use lib.ListN.{length, take, drop}
-use lib.Seq.{drop-cons}
+use lib.Seq.{drop-cons, length-take-le}
 use Rattle.code_theory.specs.Sum.{at}
 use Rattle.code_theory.proofs.QuestionLaws.{and-true}
-use Rattle.text_lines.specs.Line.{isDigit, isDigits}
-use Rattle.text_lines.specs.Ending.{lineLength}
-use Rattle.text_lines.proofs.LineLaws.{digit-at}
+use Rattle.text_lines.specs.Line.{isDigit, isDigits, isSlot, isMiss}
+use Rattle.text_lines.specs.Ending.{lineLength, hasSlot, hasMiss}
+use Rattle.text_lines.proofs.LineLaws.{digit-at, slot-digits, miss-size}
 
 -- the newline is there, or one byte more is before it
 pub ends-here : (bytes : List ℕ) (i : ℕ) → i < length bytes → at bytes i ≡ 10 → lineLength (drop i bytes) ≡ 0
@@ -57,3 +57,21 @@ digits-line (suc n) (b ∷ bytes) d h e =
     let low = digit-at (b ∷ take n bytes) d 0 (omega arith) .0 in
     ap (λ t. cond t 0 (suc (lineLength bytes))) (ne-eqb b 10 (λ f. omega (arith, low, f)))
     ∙ ap suc (digits-line n bytes (and-true (isDigit b) (isDigits (take n bytes)) d .1) (le-of-suc-le-suc h) e)
+
+-- what a yes to hasSlot and to hasMiss says
+pub slot-ends : (bytes : List ℕ) → hasSlot bytes ≡ true → (16 < length bytes) × (lineLength bytes ≡ 16) × (isSlot (take 16 bytes) ≡ true)
+unfolding hasSlot
+slot-ends bytes e =
+    let (a, more) = and-true (ltb 16 (length bytes)) _ e in
+    let (b, d) = and-true (eqb (at bytes 16) 10) (isSlot (take 16 bytes)) more in
+    let long = ltb-true 16 (length bytes) a in
+    (long, digits-line 16 bytes (slot-digits (take 16 bytes) d) long (eqb-true (at bytes 16) 10 b), d)
+
+pub miss-ends : (n : ℕ) (bytes : List ℕ) → n ≡ lineLength bytes → hasMiss n bytes ≡ true
+    → (n < length bytes) × (n ≡ 1) × (lineLength bytes ≡ 1) × (isMiss (take n bytes) ≡ true)
+unfolding hasMiss
+miss-ends n bytes l e =
+    let (a, d) = and-true (ltb n (length bytes)) (isMiss (take n bytes)) e in
+    let long = ltb-true n (length bytes) a in
+    let one : n ≡ 1 = sym (length-take-le n bytes (omega arith)) ∙ miss-size (take n bytes) d in
+    (long, one, sym l ∙ one, d)

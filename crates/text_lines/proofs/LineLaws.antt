@@ -56,6 +56,11 @@ pub slot-digits : (line : List ℕ) → isSlot line ≡ true → isDigits line �
 unfolding isSlot
 slot-digits line e = and-true (eqb (length line) 16) (isDigits line) e .1
 
+-- what a yes to isMiss says
+pub miss-size : (line : List ℕ) → isMiss line ≡ true → length line ≡ 1
+unfolding isMiss
+miss-size line e = eqb-true (length line) 1 (and-true (eqb (length line) 1) (eqb (at line 0) 45) e .0)
+
 -- the symbol of each digit
 pub word-at : (line : List ℕ) (i : ℕ) → at (wordOf line) i ≡ at line i - 48
 unfolding wordOf
@@ -78,25 +83,19 @@ no-miss : (line : List ℕ) → (length line ≡ 1 → ⊥) → isMiss line ≡ 
 unfolding isMiss
 no-miss line d = rw (ne-eqb (length line) 1 d)
 
-pub is-slot : (line : List ℕ) (b : Bool) → length line ≡ 16 → b ≡ isDigits line → isSlot line ≡ b
-unfolding isSlot
-is-slot line b e h = rw (eq-eqb (length line) 16 e, h)
+-- a miss is no slot
+pub reads-miss : (line : List ℕ) → isMiss line ≡ true → readLine line ≡ miss
+unfolding readLine isMiss
+reads-miss line e =
+    let n = miss-size line e in
+    rw (no-slot line (λ f. omega (arith, n, f)), e)
 
-pub reads-no-digits : (line : List ℕ) → length line ≡ 16 → isSlot line ≡ false → readLine line ≡ bad
+pub reads-bad : (line : List ℕ) → isSlot line ≡ false → isMiss line ≡ false → readLine line ≡ bad
 unfolding readLine
-reads-no-digits line e h = rw (h, no-miss line (λ f. omega arith))
-
-pub reads-miss : (line : List ℕ) → length line ≡ 1 → at line 0 ≡ 45 → readLine line ≡ miss
-unfolding readLine isMiss
-reads-miss line e h = rw (no-slot line (λ f. omega arith), eq-eqb (length line) 1 e, eq-eqb (at line 0) 45 h)
-
-pub reads-no-dash : (line : List ℕ) → length line ≡ 1 → (at line 0 ≡ 45 → ⊥) → readLine line ≡ bad
-unfolding readLine isMiss
-reads-no-dash line e h = rw (no-slot line (λ f. omega arith), eq-eqb (length line) 1 e, ne-eqb (at line 0) 45 h)
+reads-bad line d f = rw (d, f)
 
 pub reads-other : (line : List ℕ) → (length line ≡ 16 → ⊥) → (length line ≡ 1 → ⊥) → readLine line ≡ bad
-unfolding readLine
-reads-other line d f = rw (no-slot line d, no-miss line f)
+reads-other line d f = reads-bad line (no-slot line d) (no-miss line f)
 
 -- a line that reads as a slot is one
 pub slot-reads : (line word : List ℕ) → slot word ≡ readLine line → isSlot line ≡ true

@@ -1,10 +1,21 @@
--- Where a line ends, as the code counts it. The listing does not rest on it.
+-- Where a line ends, and which line stands at the front of some bytes, as the code finds it. The output does not rest on it.
 use Prim.Native.Nat.{ℕ, suc}
-use mathlib.Core.Bool.{cond}
+use mathlib.Core.Bool.{Bool, _&&_, cond}
 use mathlib.Core.List.{List, [], _∷_}
-use lib.Dec.{eqb}
+use lib.Dec.{eqb, ltb}
+use lib.ListN.{length, take}
+use Rattle.code_theory.specs.Sum.{at}
+use Rattle.text_lines.specs.Line.{isSlot, isMiss}
 
 -- how many bytes stand before the first newline: all where there is none
 unfoldable pub lineLength : List ℕ → ℕ
 lineLength [] = 0
 lineLength (b ∷ bytes) = cond (eqb b 10) 0 (suc (lineLength bytes))
+
+-- whether bytes begin with a slot and the newline behind it
+unfoldable pub hasSlot : List ℕ → Bool
+hasSlot bytes = ltb 16 (length bytes) && (eqb (at bytes 16) 10 && isSlot (take 16 bytes))
+
+-- whether bytes, n of which stand before the first newline, begin with a miss and the newline behind it
+unfoldable pub hasMiss : ℕ → List ℕ → Bool
+hasMiss n bytes = ltb n (length bytes) && isMiss (take n bytes)

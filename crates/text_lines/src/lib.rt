@@ -2,10 +2,10 @@
 ghost use mathlib.Core.Path.{_≡_};
 ghost use mathlib.Core.Bool.{true};
 ghost use lib.ListN.{length};
-ghost use Rattle.text_lines.specs.Line.{isDigit, isDigits, isSlot, wordOf, readLine, lineOf};
-ghost use Rattle.text_lines.specs.Ending.{lineLength};
+ghost use Rattle.text_lines.specs.Line.{isDigit, isDigits, isSlot, isMiss, wordOf, readLine, lineOf};
+ghost use Rattle.text_lines.specs.Ending.{lineLength, hasSlot, hasMiss};
 
-// What a line is.
+// What a line says.
 pub enum Kind {
     Slot,
     Miss,
@@ -20,7 +20,7 @@ fn is_digit(b: u8) -> bool
 }
 
 // Whether every byte is a digit 0 to 3. With no early answer the compiler asks many bytes at once.
-pub fn is_digits(line: &[u8]) -> bool
+fn is_digits(line: &[u8]) -> bool
     ensures { λ r. ⌜ r ≡ isDigits (now (line .entry)) ⌝ }
 {
     let mut all = true;
@@ -42,23 +42,45 @@ pub fn line_length(bytes: &[u8]) -> usize
     bytes.len()
 }
 
-// What the line is: 16 digits 0 to 3, `-`, or anything else.
+// Whether the line is a slot: 16 digits 0 to 3.
+fn is_slot(line: &[u8]) -> bool
+    ensures { λ r. ⌜ r ≡ isSlot (now (line .entry)) ⌝ }
+{
+    line.len() == 16 && is_digits(line)
+}
+
+// Whether the line is a miss: `-`.
+fn is_miss(line: &[u8]) -> bool
+    ensures { λ r. ⌜ r ≡ isMiss (now (line .entry)) ⌝ }
+{
+    line.len() == 1 && line[0] == b'-'
+}
+
+// What the line is: a slot, a miss, or neither.
 pub fn kind_of(line: &[u8]) -> Kind
     ensures { λ r. ⌜ lineOf r (now (line .entry)) ≡ readLine (now (line .entry)) ⌝ }
 {
-    if line.len() == 16 {
-        if is_digits(line) {
-            return Kind::Slot;
-        }
-        return Kind::Bad;
+    if is_slot(line) {
+        return Kind::Slot;
     }
-    if line.len() == 1 {
-        if line[0] == b'-' {
-            return Kind::Miss;
-        }
-        return Kind::Bad;
+    if is_miss(line) {
+        return Kind::Miss;
     }
     Kind::Bad
+}
+
+// Whether the bytes begin with a slot and the newline behind it.
+pub fn has_slot(bytes: &[u8]) -> bool
+    ensures { λ r. ⌜ r ≡ hasSlot (now (bytes .entry)) ⌝ }
+{
+    16 < bytes.len() && (bytes[16] == b'\n' && is_slot(&bytes[..16]))
+}
+
+// Whether the bytes, n of which stand before the first newline, begin with a miss and the newline behind it.
+pub fn has_miss(n: usize, bytes: &[u8]) -> bool
+    ensures { λ r. ⌜ r ≡ hasMiss n (now (bytes .entry)) ⌝ }
+{
+    n < bytes.len() && is_miss(&bytes[..n])
 }
 
 // Fills the word with the symbols of a slot's digits.

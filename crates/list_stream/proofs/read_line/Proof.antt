@@ -4,7 +4,8 @@ use native.Mathlib.Omega.{arith}
 use lib.ListN.{take}
 use lib.Seq.{length-take-le}
 use Rattle.text_lines.specs.Line.{slot, wordOf}
-use Rattle.list_stream.proofs.LineLaws.{slot-ends, slot-line}
+use Rattle.text_lines.proofs.EndingLaws.{slot-ends}
+use Rattle.text_chunks.proofs.LineLaws.{slot-line}
 use Rattle.list_stream.proofs.StreamLaws.{line-fit, reads-line}
 use borrow.Author.Needs.{needs}
 use Rattle.list_stream.proofs.read_line.Statement.{statement}

@@ -4,9 +4,9 @@ use native.Mathlib.Omega.{arith}
 use lib.ListN.{take}
 use lib.Seq.{length-take-le}
 use Rattle.text_lines.specs.Line.{miss, readLine}
-use Rattle.text_lines.proofs.EndingLaws.{line-within}
+use Rattle.text_lines.proofs.EndingLaws.{line-within, miss-ends}
 use Rattle.text_chunks.specs.Chunks.{keepAll}
-use Rattle.list_stream.proofs.LineLaws.{miss-ends, miss-line}
+use Rattle.text_chunks.proofs.LineLaws.{miss-line}
 use Rattle.list_stream.proofs.StreamLaws.{line-fit, reads-line, reads-part}
 use borrow.Author.Needs.{needs}
 use Rattle.list_stream.proofs.read_part.Statement.{statement}
@@ -42,7 +42,7 @@ returns c =
     let f = miss-ends (n .line-length .result) (a .bytes .now) (n .line-length .ensures) yes in
     let e = d .list-miss .ensures in
     reads-line (a .lister) (a .line .now) (a .line .now) (a .bytes .now) (a .out .now) (a .at) (s .pre) (s .pre .fit .size) miss (d .list-miss .result) 2 _ _
-    (omega (arith, f .1)) (omega (arith, f .0, f .1)) (miss-line (a .line .now) (a .bytes .now) (a .lister .kept) (n .line-length .result) (t .if1 .taken) (n .line-length .ensures) yes)
+    (omega (arith, f .2)) (omega (arith, f .0, f .1, f .2)) (miss-line (a .line .now) (a .bytes .now) (a .lister .kept) (n .line-length .result) (t .if1 .taken) (n .line-length .ensures) yes)
     (e .0) (e .1 .0) (record { place = e .1 .1 .0; buffer = e .1 .1 .1 }) (c .after-line .ensures)
 
 slice-aggregate-keep-part : tie.Need-slice-aggregate-keep-part

@@ -3,26 +3,26 @@ use mathlib.Core.Path.{sym}
 use native.Mathlib.Omega.{arith}
 use borrow.Author.Tests.{lt-ltb, le-ltb, eq-eqb, ne-eqb}
 use lib.Seq.{length-take-le}
-use Rattle.list_stream.specs.Parts.{hasSlot}
+use Rattle.text_lines.specs.Ending.{hasSlot}
 use borrow.Author.Needs.{needs}
-use Rattle.list_stream.proofs.has_slot.Statement.{statement}
-use Rattle.list_stream.proofs.has_slot.Tie as tie
+use Rattle.text_lines.proofs.has_slot.Statement.{statement}
+use Rattle.text_lines.proofs.has_slot.Tie as tie
 
 shared-slice-read-if2 : tie.Need-shared-slice-read-if2
 shared-slice-read-if2 c = search needs
 
-slice-aggregate-is-digits : tie.Need-slice-aggregate-is-digits
-slice-aggregate-is-digits c =
+slice-aggregate-is-slot : tie.Need-slice-aggregate-is-slot
+slice-aggregate-is-slot c =
     sym (length-take-le 16 (c .before .before .before .before .before .args .bytes .now) (omega arith))
 
-is-digits-requires : tie.Need-is-digits-requires
-is-digits-requires c κs = search needs
+is-slot-requires : tie.Need-is-slot-requires
+is-slot-requires c κs = search needs
 
 returns : tie.Need-returns
 unfolding hasSlot
 returns c =
     let i = c .before .before in
-    let e = c .is-digits .ensures in
+    let e = c .is-slot .ensures in
     simp (lt-ltb _ _ (i .before .before .if1 .taken), eq-eqb _ _ (i .if2 .taken)) e
 
 returns-2 : tie.Need-returns-2
@@ -38,8 +38,8 @@ has-slot-spec =
     tie.close
     (tie.spec
     shared-slice-read-if2
-    slice-aggregate-is-digits
-    is-digits-requires
+    slice-aggregate-is-slot
+    is-slot-requires
     returns
     returns-2
     returns-3)
