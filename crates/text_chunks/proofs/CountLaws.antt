@@ -1,6 +1,6 @@
 -- How many bytes of a chunk are read. Assumes nothing.
 use Prim.Native.Nat.{ℕ, suc, _+_, _-_, _≤_, _<_}
-use mathlib.Core.Path.{_≡_, refl, ap, sym, _∙_}
+use mathlib.Core.Path.{_≡_, refl, ap, sym, _∙_, subst}
 use mathlib.Core.Bool.{Bool, true, false, cond}
 use mathlib.Core.List.{List, [], _∷_, _++_}
 use native.Mathlib.Nat.{zero-add, suc-add, sub-zero}
@@ -9,6 +9,7 @@ use borrow.Author.Tests.{eqb-false, lt-ltb, le-ltb}
 use lib.Dec.{eqb, ltb}
 use lib.ListN.{length, take, drop, length-append, drop-of-length-le}
 use Rattle.text_lines.specs.Ending.{lineLength}
+use Rattle.text_lines.proofs.EndingLaws.{line-step}
 use Rattle.text_chunks.specs.Chunks.{Reader, Progress, keep, step, stepText, fed, fedText, fedCount}
 use Rattle.text_chunks.proofs.StepLaws.{step-keep, text-keep}
 
@@ -76,7 +77,8 @@ module _ {S : Type 0} (R : Reader S) where
   pub count-within : (p : Progress S) (left : ℕ) (bytes : List ℕ) → p .over ≡ false → R .room ≤ left → fedCount R p left (take (lineLength bytes) bytes) ≡ lineLength bytes
   unfolding lineLength fedCount
   count-within p left [] o h = refl
-  count-within p left (b ∷ bytes) o h = by (eqb b 10) refl (count-within kept left bytes o h)
+  count-within p left (b ∷ bytes) o h =
+      subst (λ n. fedCount R p left (take n (b ∷ bytes)) ≡ n) (sym (line-step b bytes)) (by (eqb b 10) refl (count-within kept left bytes o h))
     where
       kept : Progress S
       kept = record { state = p .state; part = keep (p .part) b; over = p .over }

@@ -1,6 +1,6 @@
 -- What the code does with the bytes up to the end of a line, and with one such part after the other. Assumes nothing.
 use Prim.Native.Nat.{ℕ, suc, _+_, _-_, _≤_, _<_}
-use mathlib.Core.Path.{_≡_, refl, ap, ap₂, sym, _∙_}
+use mathlib.Core.Path.{_≡_, refl, ap, ap₂, sym, _∙_, subst}
 use mathlib.Core.Bool.{Bool, true, false, cond}
 use mathlib.Core.List.{List, [], _∷_, _++_}
 use native.Mathlib.Nat.{add-zero}
@@ -13,7 +13,7 @@ use lib.Seq.{length-take-le, take-suc, take-all, take-add}
 use Rattle.text_buffer.proofs.PutLaws.{put-none, put-fits, Written, written-as, written-then}
 use Rattle.text_lines.specs.Line.{Line, readLine}
 use Rattle.text_lines.specs.Ending.{lineLength}
-use Rattle.text_lines.proofs.EndingLaws.{line-newline}
+use Rattle.text_lines.proofs.EndingLaws.{line-step, line-newline}
 use Rattle.text_chunks.specs.Chunks.{Reader, Progress, keep, keepAll, ended, step, stepText, fed, fedText, fedCount}
 use Rattle.text_chunks.specs.Parts.{within, Took}
 use Rattle.text_chunks.proofs.ChunkLaws.{fed-append, text-append, fed-next, text-next}
@@ -36,7 +36,9 @@ module _ {S : Type 0} (R : Reader S) where
   pub fed-within : (p : Progress S) (bytes : List ℕ) → p .over ≡ false → fed R p (take (lineLength bytes) bytes) ≡ within p (take (lineLength bytes) bytes)
   unfolding fed within keepAll lineLength
   fed-within p [] o = refl
-  fed-within p (b ∷ bytes) o = by (eqb b 10) refl (fed-within (record { state = p .state; part = keep (p .part) b; over = p .over }) bytes o)
+  fed-within p (b ∷ bytes) o =
+      subst (λ n. fed R p (take n (b ∷ bytes)) ≡ within p (take n (b ∷ bytes))) (sym (line-step b bytes))
+      (by (eqb b 10) refl (fed-within (record { state = p .state; part = keep (p .part) b; over = p .over }) bytes o))
     where
       by : (t : Bool) → eqb b 10 ≡ t
           → fed R (record { state = p .state; part = keep (p .part) b; over = p .over }) (take (lineLength bytes) bytes)
@@ -48,7 +50,9 @@ module _ {S : Type 0} (R : Reader S) where
   pub text-within : (p : Progress S) (bytes : List ℕ) → p .over ≡ false → fedText R p (take (lineLength bytes) bytes) ≡ []
   unfolding fedText lineLength
   text-within p [] o = refl
-  text-within p (b ∷ bytes) o = by (eqb b 10) refl (text-within (record { state = p .state; part = keep (p .part) b; over = p .over }) bytes o)
+  text-within p (b ∷ bytes) o =
+      subst (λ n. fedText R p (take n (b ∷ bytes)) ≡ []) (sym (line-step b bytes))
+      (by (eqb b 10) refl (text-within (record { state = p .state; part = keep (p .part) b; over = p .over }) bytes o))
     where
       by : (t : Bool) → eqb b 10 ≡ t → fedText R (record { state = p .state; part = keep (p .part) b; over = p .over }) (take (lineLength bytes) bytes) ≡ []
           → fedText R p (take (cond t 0 (suc (lineLength bytes))) (b ∷ bytes)) ≡ []

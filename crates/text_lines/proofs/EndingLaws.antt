@@ -1,37 +1,40 @@
 -- Where a line ends: byte by byte, behind 16 digits and behind a miss. Assumes nothing.
 use Prim.Native.Nat.{ℕ, zero, suc, _+_, _≤_, _<_}
-use mathlib.Core.Path.{_≡_, refl, ap, sym, _∙_}
+use mathlib.Core.Path.{_≡_, refl, ap, sym, _∙_, subst}
 use mathlib.Core.Bool.{Bool, true, false, cond}
 use mathlib.Core.List.{List, [], _∷_}
-use native.Mathlib.Nat.{not-suc-le-zero, le-of-suc-le-suc}
-use native.Mathlib.Numerals.{add-one}
+use native.Mathlib.Nat.{not-suc-le-zero, le-of-suc-le-suc, zero-add}
 use native.Mathlib.Omega.{arith}
 use borrow.Author.Tests.{eq-eqb, ne-eqb, eqb-true, ltb-true}
 use lib.Dec.{eqb, ltb}
-use lib.ListN.{length, take, drop}
-use lib.Seq.{drop-cons, length-take-le}
+use lib.ListN.{length, take}
+use lib.Seq.{length-take-le, take-all}
+use Rattle.bytes.specs.Bytes.{indexOf, indexAfter, slice}
 use Rattle.code_theory.specs.Sum.{at}
 use Rattle.code_theory.proofs.QuestionLaws.{and-true}
 use Rattle.text_lines.specs.Line.{isDigit, isDigits, isSlot, isMiss}
 use Rattle.text_lines.specs.Ending.{lineLength, hasSlot, hasMiss}
 use Rattle.text_lines.proofs.LineLaws.{digit-at, slot-digits, miss-size}
 
--- the newline is there, or one byte more is before it
-pub ends-here : (bytes : List ℕ) (i : ℕ) → i < length bytes → at bytes i ≡ 10 → lineLength (drop i bytes) ≡ 0
-unfolding lineLength
-ends-here bytes i h e = ap lineLength (drop-cons bytes i 0 h) ∙ ap (λ t. cond t 0 (suc (lineLength (drop (suc i) bytes)))) (eq-eqb (at bytes i) 10 e)
+-- none before a newline, else one byte more
+pub line-step : (b : ℕ) (bytes : List ℕ) → lineLength (b ∷ bytes) ≡ cond (eqb b 10) 0 (suc (lineLength bytes))
+unfolding lineLength indexOf indexAfter
+line-step b bytes = by (eqb b 10)
+  where
+    by : (t : Bool) → indexAfter t (indexOf 10 bytes) ≡ cond t 0 (suc (indexOf 10 bytes))
+    by true = refl
+    by false = refl
 
-pub ends-later : (bytes : List ℕ) (i : ℕ) → i < length bytes → (at bytes i ≡ 10 → ⊥) → lineLength (drop i bytes) ≡ suc (lineLength (drop (i + 1) bytes))
-unfolding lineLength
-ends-later bytes i h d =
-    ap lineLength (drop-cons bytes i 0 h) ∙ ap (λ t. cond t 0 (suc (lineLength (drop (suc i) bytes)))) (ne-eqb (at bytes i) 10 d)
-    ∙ ap (λ k. suc (lineLength (drop k bytes))) (sym (add-one i))
+-- the code looks for the newline in all of the bytes
+pub line-found : (bytes : List ℕ) (n : ℕ) → n ≡ 0 + indexOf 10 (slice 0 (length bytes) bytes) → n ≡ lineLength bytes
+unfolding lineLength slice
+line-found bytes n e = e ∙ zero-add _ ∙ ap (indexOf 10) (take-all (length bytes) bytes (omega arith))
 
 -- a line ends within the bytes, or with them
 pub line-within : (bytes : List ℕ) → lineLength bytes ≤ length bytes
-unfolding lineLength
+unfolding lineLength indexOf
 line-within [] = omega arith
-line-within (b ∷ bytes) = by (eqb b 10) (line-within bytes)
+line-within (b ∷ bytes) = subst (λ n. n ≤ suc (length bytes)) (sym (line-step b bytes)) (by (eqb b 10) (line-within bytes))
   where
     by : (t : Bool) → lineLength bytes ≤ length bytes → cond t 0 (suc (lineLength bytes)) ≤ suc (length bytes)
     by true h = omega arith
@@ -39,9 +42,9 @@ line-within (b ∷ bytes) = by (eqb b 10) (line-within bytes)
 
 -- what stands behind it is a newline
 pub line-newline : (bytes : List ℕ) → lineLength bytes < length bytes → at bytes (lineLength bytes) ≡ 10
-unfolding lineLength
 line-newline [] h = absurd (not-suc-le-zero h)
-line-newline (b ∷ bytes) h = by (eqb b 10) refl (line-newline bytes) h
+line-newline (b ∷ bytes) h =
+    subst (λ n. n < suc (length bytes) → at (b ∷ bytes) n ≡ 10) (sym (line-step b bytes)) (by (eqb b 10) refl (line-newline bytes)) h
   where
     by : (t : Bool) → eqb b 10 ≡ t → (lineLength bytes < length bytes → at bytes (lineLength bytes) ≡ 10)
         → cond t 0 (suc (lineLength bytes)) < suc (length bytes) → at (b ∷ bytes) (cond t 0 (suc (lineLength bytes))) ≡ 10
@@ -50,12 +53,12 @@ line-newline (b ∷ bytes) h = by (eqb b 10) refl (line-newline bytes) h
 
 -- digits and a newline behind them are a line
 pub digits-line : (n : ℕ) (bytes : List ℕ) → isDigits (take n bytes) ≡ true → n < length bytes → at bytes n ≡ 10 → lineLength bytes ≡ n
-unfolding lineLength isDigits
+unfolding isDigits
 digits-line n [] d h e = absurd (not-suc-le-zero h)
-digits-line zero (b ∷ bytes) d h e = ap (λ t. cond t 0 (suc (lineLength bytes))) (eq-eqb b 10 e)
+digits-line zero (b ∷ bytes) d h e = line-step b bytes ∙ ap (λ t. cond t 0 (suc (lineLength bytes))) (eq-eqb b 10 e)
 digits-line (suc n) (b ∷ bytes) d h e =
     let low = digit-at (b ∷ take n bytes) d 0 (omega arith) .0 in
-    ap (λ t. cond t 0 (suc (lineLength bytes))) (ne-eqb b 10 (λ f. omega (arith, low, f)))
+    line-step b bytes ∙ ap (λ t. cond t 0 (suc (lineLength bytes))) (ne-eqb b 10 (λ f. omega (arith, low, f)))
     ∙ ap suc (digits-line n bytes (and-true (isDigit b) (isDigits (take n bytes)) d .1) (le-of-suc-le-suc h) e)
 
 -- what a yes to hasSlot and to hasMiss says

@@ -1,16 +1,17 @@
 -- Where a line ends, and which line stands at the front of some bytes, as the code finds it. The output does not rest on it.
-use Prim.Native.Nat.{ℕ, suc}
-use mathlib.Core.Bool.{Bool, _&&_, cond}
-use mathlib.Core.List.{List, [], _∷_}
+use Prim.Native.Nat.{ℕ}
+use mathlib.Core.Bool.{Bool, _&&_}
+use mathlib.Core.List.{List}
 use lib.Dec.{eqb, ltb}
 use lib.ListN.{length, take}
+use Rattle.bytes.specs.Bytes.{indexOf}
 use Rattle.code_theory.specs.Sum.{at}
 use Rattle.text_lines.specs.Line.{isSlot, isMiss}
 
 -- how many bytes stand before the first newline: all where there is none
 unfoldable pub lineLength : List ℕ → ℕ
-lineLength [] = 0
-lineLength (b ∷ bytes) = cond (eqb b 10) 0 (suc (lineLength bytes))
+unfolding indexOf
+lineLength bytes = indexOf 10 bytes
 
 -- whether bytes begin with a slot and the newline behind it
 unfoldable pub hasSlot : List ℕ → Bool

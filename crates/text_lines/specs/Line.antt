@@ -41,7 +41,7 @@ isMiss line = eqb (length line) 1 && eqb (at line 0) 45
 unfoldable pub wordOf : List ℕ → List ℕ
 wordOf line = map (λ b. b - 48) line
 
--- any other line, an empty one included, is bad
+-- any other line, an empty one included, is malformed: bad
 unfoldable pub readLine : List ℕ → Line
 readLine line = cond (isSlot line) (slot (wordOf line)) (cond (isMiss line) miss bad)
 

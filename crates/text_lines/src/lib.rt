@@ -34,12 +34,7 @@ fn is_digits(line: &[u8]) -> bool
 pub fn line_length(bytes: &[u8]) -> usize
     ensures { λ r. ⌜ r ≡ lineLength (now (bytes .entry)) ⌝ }
 {
-    for i in 0..bytes.len() {
-        if bytes[i] == b'\n' {
-            return i;
-        }
-    }
-    bytes.len()
+    bytes::scan::find(bytes, 0, bytes.len(), b'\n')
 }
 
 // Whether the line is a slot: 16 digits 0 to 3.
