@@ -1,16 +1,15 @@
 -- A listing's session is sound, and a line ends the reading exactly after 65,536 slots. Assumes nothing.
-use Prim.Native.Nat.{ℕ, zero, suc, _+_, _-_, _^_, _≤_, _<_}
-use mathlib.Core.Path.{_≡_, refl, ap, sym, subst, _∙_}
+use Prim.Native.Nat.{ℕ, zero, suc}
+use mathlib.Core.Path.{_≡_, refl, subst, _∙_}
 use mathlib.Core.Bool.{Bool, true, false, not, cond}
 use mathlib.Core.List.{List}
 use native.Mathlib.Omega.{arith}
 use borrow.Author.Tests.{eqb-true, lt-ltb}
 use lib.Dec.{eqb, ltb}
 use lib.ListN.{length}
-use Rattle.code_theory.specs.Sum.{at}
 use Rattle.code_theory.specs.Nearest.{isReadable}
 use Rattle.code_theory.specs.Question.{ask, isAlphabet, isVariables, isMessageSize, isWordSize, allBelow, after}
-use Rattle.code_theory.proofs.QuestionLaws.{message-yes, word-yes, below-all}
+use Rattle.code_theory.proofs.QuestionLaws.{below-all}
 use Rattle.session_slot.specs.Slot.{slots}
 use Rattle.session_receiver.specs.Receiving.{isBelow, isMissing, soundReceiver, receiveRefusal, receiveConstant, receiveSession, afterReceive, nextReceiver, missRefusal, missSession}
 use Rattle.session_reference.specs.declared.Reference.the-variants.{Held, Missing}

@@ -6,7 +6,6 @@ use mathlib.Core.Bool.{Bool, true, false, cond}
 use mathlib.Core.List.{List}
 use native.Mathlib.Nat.{mod-lt}
 use native.Mathlib.Omega.{arith}
-use borrow.Author.Tests.{eq-eqb, ne-eqb}
 use lib.Dec.{eqb}
 use lib.ListN.{length}
 use Rattle.code_theory.specs.Sum.{at}
@@ -23,7 +22,7 @@ use Rattle.strap.specs.declared.Unpacked.{Unpacked}
 use Rattle.strap.specs.declared.Unpacked.the-variants as U
 use Rattle.text_buffer.specs.Text.{put}
 use Rattle.text_buffer.proofs.PutLaws.{Written, written-as}
-use Rattle.session_receiver.specs.Receiving.{receiveRefusal, receiveConstant, zoneFrom, zoneSymbol, receiveDelivery, deliveryValues, receiveAnswer, receiveMessage, receiveSession, afterReceive, nextReceiver, received, receivedSession, missRefusal, missAnswer, missSession, missed, missedSession}
+use Rattle.session_receiver.specs.Receiving.{receiveRefusal, receiveConstant, zoneFrom, zoneSymbol, receiveDelivery, deliveryValues, receiveAnswer, receiveMessage, receiveSession, nextReceiver, received, receivedSession, missRefusal, missAnswer, missSession, missed, missedSession}
 use Rattle.session_reference.specs.declared.Reference.{Reference}
 use Rattle.session_reference.specs.declared.Reference.the-variants.{Held, Missing}
 use Rattle.session_receiver.specs.declared.Delivery.{Delivery}
@@ -35,21 +34,9 @@ use Rattle.session_receiver.specs.declared.Missed.the-variants as M
 use Rattle.session_slot.specs.Slot.{slots, slotTime}
 use Rattle.text_lines.specs.Line.{Line, slot, miss, bad}
 use Rattle.list_line.specs.Listing.{readingText, doubtfulText, missedText, overText, badText, blank, deliveryText, lineText, lineSession, lineEnds}
+use Rattle.session_receiver.proofs.AfterLaws.{after-read, after-doubtful, after-refused}
 use Rattle.session_receiver.proofs.DeliveryLaws.{delivery-told}
-use Rattle.session_receiver.proofs.SoundLaws.{ReceiveYes, receive-yes, receive-doubtful, miss-yes}
-
--- what Receive changes, by the number
-pub after-read : {A : Type 0} (n : ℕ) (x y z : A) → n ≡ 0 → afterReceive n x y z ≡ x
-unfolding afterReceive after
-after-read n x y z e = rw e
-
-pub after-doubtful : {A : Type 0} (n : ℕ) (x y z : A) → n ≡ 9 → afterReceive n x y z ≡ y
-unfolding afterReceive
-after-doubtful n x y z e = rw e
-
-pub after-refused : {A : Type 0} (n : ℕ) (x y z : A) → n ≢ 0 → n ≢ 9 → afterReceive n x y z ≡ z
-unfolding afterReceive
-after-refused n x y z d f = rw (ne-eqb n 9 f) (after-no n x z d)
+use Rattle.session_receiver.proofs.SoundLaws.{receive-yes, receive-doubtful, miss-yes}
 
 -- the message that Receive leaves can be unpacked
 zone-below : (q : ℕ) (reference : Reference) (constant : ℕ) → 0 < q → zoneSymbol (zoneFrom q reference constant) < q

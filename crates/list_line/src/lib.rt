@@ -10,7 +10,6 @@ ghost use mathlib.Core.Bool.{true};
 ghost use mathlib.Core.List.{[], _∷_, _++_};
 ghost use Prim.Native.Nat.{_+_, _≤_};
 ghost use lib.ListN.{length};
-ghost use Rattle.strap.specs.Strap.{rateOf, unpackRefusal};
 ghost use Rattle.text_buffer.specs.Text.{put};
 ghost use Rattle.text_lines.specs.Line.{isSlot, wordOf, readLine};
 ghost use Rattle.text_lines.specs.Line as L;
@@ -46,7 +45,7 @@ pub fn put_header(out: &mut [u8], at: usize) -> usize
     text_buffer::put_text(b"ms rate zone wrong margin\n", out, at)
 }
 
-// Puts the line of a bad line.
+// Puts the output for a malformed line.
 fn put_bad(out: &mut [u8], at: usize) -> usize
     requires { ⌜ at + 64 ≤ length (now out) ⌝ }
     ensures place { λ r. ⌜ r ≡ at + length badText ⌝ }
@@ -55,7 +54,7 @@ fn put_bad(out: &mut [u8], at: usize) -> usize
     text_buffer::put_text(b"bad\n", out, at)
 }
 
-// Puts the line of a slot after the last.
+// Puts `over`: the session is full.
 fn put_over(out: &mut [u8], at: usize) -> usize
     requires { ⌜ at + 64 ≤ length (now out) ⌝ }
     ensures place { λ r. ⌜ r ≡ at + length overText ⌝ }
@@ -64,7 +63,7 @@ fn put_over(out: &mut [u8], at: usize) -> usize
     text_buffer::put_text(b"over\n", out, at)
 }
 
-// Puts the line of a missed slot.
+// Puts the output for a missed slot.
 fn put_missed(ms: u32, out: &mut [u8], at: usize) -> usize
     requires { ⌜ at + 64 ≤ length (now out) ⌝ }
     ensures place { λ r. ⌜ r ≡ at + length (missedText ms) ⌝ }
@@ -74,7 +73,7 @@ fn put_missed(ms: u32, out: &mut [u8], at: usize) -> usize
     text_buffer::put_text(b"missed\n", out, next)
 }
 
-// Puts the line of a doubtful slot.
+// Puts the output for a doubtful slot.
 fn put_doubtful(ms: u32, out: &mut [u8], at: usize) -> usize
     requires { ⌜ at + 64 ≤ length (now out) ⌝ }
     ensures place { λ r. ⌜ r ≡ at + length (doubtfulText ms) ⌝ }
@@ -97,7 +96,7 @@ fn put_zone(zone: Zone, out: &mut [u8], at: usize) -> usize
     }
 }
 
-// Puts the line of a word that is read.
+// Puts the output for a word that is read.
 fn put_reading(rate: u8, delivery: Delivery, out: &mut [u8], at: usize) -> usize
     requires { ⌜ at + 64 ≤ length (now out) ⌝ }
     ensures place { λ r. ⌜ r ≡ at + length (readingText (delivery .time) rate (delivery .zone) (delivery .wrong) (delivery .margin)) ⌝ }
@@ -111,7 +110,7 @@ fn put_reading(rate: u8, delivery: Delivery, out: &mut [u8], at: usize) -> usize
     text_buffer::put_field(delivery.margin, b'\n', out, fifth)
 }
 
-// Lists a word: its slot is read or doubtful, or there is none for it. The message slice is room for Receive.
+// Lists a word: its slot is read or doubtful, or the session is full. The message slice is room for Receive.
 fn list_word(
     receiver: Receiver,
     word: &[u8],

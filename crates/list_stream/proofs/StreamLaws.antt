@@ -1,15 +1,13 @@
 -- Chunk after chunk, the output is the listing of the whole input; what the code does with a line. Assumes nothing.
-use Prim.Native.Nat.{ℕ, zero, suc, _+_, _≤_, _<_}
+use Prim.Native.Nat.{ℕ, _+_, _≤_, _<_}
 use mathlib.Core.Path.{_≡_, refl, ap, sym, _∙_, subst}
-use mathlib.Core.Bool.{Bool, true, false, cond}
+use mathlib.Core.Bool.{false, cond}
 use mathlib.Core.List.{List, [], _∷_, _++_, append-nil}
 use native.Mathlib.Omega.{arith}
-use lib.Dec.{eqb}
 use lib.ListN.{length, take}
-use Rattle.code_theory.specs.Question.{after}
 use Rattle.text_buffer.proofs.PutLaws.{Written}
 use Rattle.session_receiver.specs.declared.Receiver.{Receiver}
-use Rattle.session_receiver.specs.Receiving.{receiveSession, afterReceive, nextReceiver, missSession}
+use Rattle.session_receiver.proofs.AfterLaws.{SameCode, receive-code, miss-code}
 use Rattle.text_lines.specs.Line.{Line, slot, miss, bad, linesFrom, readLine}
 use Rattle.text_lines.specs.Ending.{lineLength}
 use Rattle.text_chunks.specs.Chunks.{Progress, keepAll, told, joined, chunksText, endText}
@@ -17,7 +15,7 @@ use Rattle.text_chunks.specs.Parts.{Took}
 use Rattle.text_chunks.proofs.ChunkLaws.{chunks-told}
 use Rattle.text_chunks.proofs.StepLaws.{last-some, end-last}
 use Rattle.text_chunks.proofs.PartLaws.{took-line, took-part}
-use Rattle.list_line.specs.Listing.{header, lineText, lineSession, lineEnds, listed, listing, opened}
+use Rattle.list_line.specs.Listing.{header, blank, lineText, lineSession, lineEnds, listed, listing, opened}
 use Rattle.list_line.specs.declared.Listed.{Listed}
 use Rattle.list_stream.specs.Stream.{reader, begun, progress, Fit}
 use Rattle.list_stream.specs.Parts.{Ended, Goes, Reads}
@@ -41,28 +39,11 @@ chunks-listing chunks = ap (λ l. header ++ l) (chunks-told reader opened chunks
 pub end-line : (p : Progress Receiver) → p .over ≡ false → 0 < length (p .part) → endText reader p ≡ lineText (p .state) (readLine (p .part))
 end-line p o h = end-last reader p o ∙ last-some reader (p .state) (p .part) h ∙ append-nil _
 
--- what holds of each case of a call holds after it
-after-any : {A : Type 0} (P : A → Type 0) (n : ℕ) (x y : A) → P x → P y → P (after n x y)
-unfolding after
-after-any P zero x y a b = a
-after-any P (suc n) x y a b = b
-
-receive-any : {A : Type 0} (P : A → Type 0) (n : ℕ) (x y z : A) → P x → P y → P z → P (afterReceive n x y z)
-unfolding afterReceive
-receive-any P n x y z a b c = by (eqb n 9)
-  where
-    by : (t : Bool) → P (cond t y (after n x z))
-    by true = b
-    by false = after-any P n x z a c
-
 -- a line leaves the session's code as it was
-abbrev SameCode : Receiver → Receiver → Type 0
-SameCode s r = (r .q ≡ s .q) × (r .m ≡ s .m)
-
-pub line-code : (s : Receiver) (line : Line) → SameCode s (lineSession s line)
-unfolding lineSession receiveSession missSession nextReceiver
-line-code s (slot w) = receive-any (SameCode s) _ _ _ _ (refl, refl) (refl, refl) (refl, refl)
-line-code s miss = after-any (SameCode s) _ _ _ (refl, refl) (refl, refl)
+line-code : (s : Receiver) (line : Line) → SameCode s (lineSession s line)
+unfolding lineSession
+line-code s (slot w) = receive-code s blank w
+line-code s miss = miss-code s
 line-code s bad = (refl, refl)
 
 -- a line leaves q = 4, m = 4

@@ -1,5 +1,5 @@
 -- `list_miss` meets its contract, by the cases of Miss's answer.
-use mathlib.Core.Path.{_≡_, ap}
+use mathlib.Core.Path.{ap}
 use Rattle.text_buffer.proofs.PutLaws.{written-as}
 use Rattle.list_line.specs.Listing.{missedText}
 use Rattle.list_line.proofs.SlotLaws.{missed-number, told-missed, told-missed-over, missed-room, listed-as}

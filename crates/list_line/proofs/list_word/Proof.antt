@@ -1,5 +1,5 @@
 -- `list_word` meets its contract, by the cases of Receive's answer.
-use mathlib.Core.Path.{_≡_, ap, _∙_}
+use mathlib.Core.Path.{ap, _∙_}
 use Rattle.text_buffer.proofs.PutLaws.{written-as}
 use Rattle.strap.specs.Strap.{unpackRefusal}
 use Rattle.list_line.specs.Listing.{doubtfulText}

@@ -1,5 +1,4 @@
 -- `put_field` meets its contract: the byte is stored behind the digits.
-use mathlib.Core.Path.{_≡_}
 use native.Mathlib.Omega.{arith}
 use Rattle.text_buffer.specs.Text.{field}
 use Rattle.text_buffer.proofs.DecimalLaws.{length-field}
