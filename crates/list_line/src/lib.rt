@@ -10,7 +10,7 @@ ghost use mathlib.Core.Bool.{true};
 ghost use mathlib.Core.List.{[], _∷_, _++_};
 ghost use Prim.Native.Nat.{_+_, _≤_};
 ghost use lib.ListN.{length};
-ghost use Rattle.text_buffer.specs.Text.{put};
+ghost use Rattle.text_buffer.specs.Text.{put, field};
 ghost use Rattle.text_lines.specs.Line.{isSlot, wordOf, readLine};
 ghost use Rattle.text_lines.specs.Line as L;
 ghost use Rattle.list_line.specs.Listing.{header, zoneText, readingText, doubtfulText, missedText, overText, badText, blank, lineText, lineSession, lineEnds, Ready};
@@ -63,14 +63,23 @@ fn put_over(out: &mut [u8], at: usize) -> usize
     text_buffer::put_text(b"over\n", out, at)
 }
 
+// Puts the time of a slot, a space, and what became of the slot.
+fn put_event(ms: u32, event: &[u8], out: &mut [u8], at: usize) -> usize
+    requires { ⌜ at + 11 + length (now event) ≤ length (now out) ⌝ }
+    ensures place { λ r. ⌜ r ≡ at + length (field ms 32 ++ now (event .entry)) ⌝ }
+    ensures buffer { λ r. ⌜ now (out .exit) ≡ put (now (out .entry)) at (field ms 32 ++ now (event .entry)) ⌝ }
+{
+    let next = text_buffer::put_field(ms, b' ', out, at);
+    text_buffer::put_text(event, out, next)
+}
+
 // Puts the output for a missed slot.
 fn put_missed(ms: u32, out: &mut [u8], at: usize) -> usize
     requires { ⌜ at + 64 ≤ length (now out) ⌝ }
     ensures place { λ r. ⌜ r ≡ at + length (missedText ms) ⌝ }
     ensures buffer { λ r. ⌜ now (out .exit) ≡ put (now (out .entry)) at (missedText ms) ⌝ }
 {
-    let next = text_buffer::put_field(ms, b' ', out, at);
-    text_buffer::put_text(b"missed\n", out, next)
+    put_event(ms, b"missed\n", out, at)
 }
 
 // Puts the output for a doubtful slot.
@@ -79,8 +88,7 @@ fn put_doubtful(ms: u32, out: &mut [u8], at: usize) -> usize
     ensures place { λ r. ⌜ r ≡ at + length (doubtfulText ms) ⌝ }
     ensures buffer { λ r. ⌜ now (out .exit) ≡ put (now (out .entry)) at (doubtfulText ms) ⌝ }
 {
-    let next = text_buffer::put_field(ms, b' ', out, at);
-    text_buffer::put_text(b"doubtful\n", out, next)
+    put_event(ms, b"doubtful\n", out, at)
 }
 
 // Puts the zone, or `-` where there is none, and a space.

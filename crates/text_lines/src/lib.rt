@@ -1,4 +1,4 @@
-// The lines of the session list's input, q = 4, m = 4.
+// The lines that a program reads, one slot each, q = 4, m = 4.
 ghost use mathlib.Core.Path.{_≡_};
 ghost use mathlib.Core.Bool.{true};
 ghost use lib.ListN.{length};
