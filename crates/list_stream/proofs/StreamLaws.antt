@@ -64,11 +64,12 @@ module _ (l : Lister) (start line bytes before : List ℕ) (place : ℕ) (g : Go
       let code = line-fit l start x (r .lister .receiver) (g .fit) next in
       let written : Written before place (lineText (l .receiver) x) (r .next) out = record { place = d .next ∙ w .place; buffer = w .buffer } in
       let none : [] ≡ take (r .lister .kept) line = ap (λ i. take i line) (sym (d .kept)) in
+      let p = progress l start in
+      let q : List ℕ → Progress Receiver = λ part. record { state = r .lister .receiver; part = part; over = r .lister .over } in
+      let took : Took reader p bytes before place (q []) (r .next) (r .read) out =
+      took-line reader p bytes before place (g .on) (g .room) x _ _ (r .next) (r .read) out (d .read ∙ n) h e next (d .over ∙ o) written in
       record {
-        took =
-            subst (λ part. Took reader (progress l start) bytes before place (record { state = r .lister .receiver; part = part; over = r .lister .over }) (r .next) (r .read) out) none
-            (took-line reader (progress l start) bytes before place (g .on) (g .room) x (r .lister .receiver) (r .lister .over) (r .next) (r .read) out (d .read ∙ n) h e next
-            (d .over ∙ o) written);
+        took = subst (λ part. Took reader p bytes before place (q part) (r .next) (r .read) out) none took;
         fit = record { alphabet = code .0; variables = code .1; kept = omega (arith, d .kept); size = size };
       }
 

@@ -204,8 +204,8 @@ fn list_part(lister: Lister, line: &mut [u8], bytes: &[u8], at: usize, out: &mut
     }
 }
 
-// One turn of the program, by what its last read gave: so many bytes of the chunk, of which those before a place are listed; 0 at the end of
-// the input; less where it failed, with this error.
+// One turn of the program, by what its last read gave: so many bytes of the chunk, of which those before a place are listed; 0 at the end
+// of the input; less where it failed, with this error.
 pub fn turn(
     lister: Lister,
     line: &mut [u8],

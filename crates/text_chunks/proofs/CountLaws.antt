@@ -66,7 +66,8 @@ module _ {S : Type 0} (R : Reader S) where
       rest = omega (arith, length-append (stepText R p b) (fedText R (step R p b) xs))
 
       by : (o t : Bool) → cond o 0 (cond t 0 (suc (fedCount R (step R p b) next xs))) ≡ suc (length xs)
-          → (fedCount R (step R p b) next xs ≡ length xs → fedCount R (step R p b) next (xs ++ ys) ≡ length xs + fedCount R (fed R (step R p b) xs) (next - length (fedText R (step R p b) xs)) ys)
+          → (fedCount R (step R p b) next xs ≡ length xs
+          → fedCount R (step R p b) next (xs ++ ys) ≡ length xs + fedCount R (fed R (step R p b) xs) (next - length (fedText R (step R p b) xs)) ys)
           → cond o 0 (cond t 0 (suc (fedCount R (step R p b) next (xs ++ ys))))
           ≡ suc (length xs) + fedCount R (fed R (step R p b) xs) (left - length (stepText R p b ++ fedText R (step R p b) xs)) ys
       by true t e more = absurd (omega (arith, e))

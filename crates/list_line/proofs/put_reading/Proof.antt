@@ -95,8 +95,8 @@ returns c =
     let d = e .before .before .before .before in
     let s = d .before .before .before in
     let a = s .args in
-    let w = written-five (a .out .now) (a .at) (s .pre) _ _ _ _ _ _ _ _ _ _ _ _ _ _ _ (small s .time) (small s .rate) (omega (arith, f .put-zone .ensures .0, f .put-zone .ensures .1 .1))
-    (small s .wrong) (small s .last) (record { place = d .put-field .ensures .0; buffer = d .put-field .ensures .1 })
+    let w = written-five (a .out .now) (a .at) (s .pre) _ _ _ _ _ _ _ _ _ _ _ _ _ _ _ (small s .time) (small s .rate)
+    (omega (arith, f .put-zone .ensures .0, f .put-zone .ensures .1 .1)) (small s .wrong) (small s .last) (record { place = d .put-field .ensures .0; buffer = d .put-field .ensures .1 })
     (record { place = e .put-field2 .ensures .0; buffer = e .put-field2 .ensures .1 }) (record { place = f .put-zone .ensures .0; buffer = f .put-zone .ensures .1 .0 })
     (record { place = g .put-field3 .ensures .0; buffer = g .put-field3 .ensures .1 }) (record { place = h .put-field4 .ensures .0; buffer = h .put-field4 .ensures .1 }) in
     let v = written-as (reading-pieces (a .delivery .time) (a .rate) (a .delivery .zone) (a .delivery .wrong) (a .delivery .margin)) w in

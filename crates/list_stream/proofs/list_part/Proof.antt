@@ -1,4 +1,5 @@
 -- `list_part` meets its contract: what is left of the bytes is fed.
+use Rattle.text_chunks.proofs.PartLaws.{remaining}
 use Rattle.list_stream.proofs.TurnLaws.{part-fed}
 use borrow.Author.Needs.{needs}
 use Rattle.list_stream.proofs.list_part.Statement.{statement}
@@ -29,6 +30,7 @@ same-length-2 : tie.Need-same-length-2
 same-length-2 c = search needs
 
 returns : tie.Need-returns
+unfolding remaining
 returns c =
     let f = c .before .before .before .before .before .before .before in
     let s = f .before .before .before .before .before .before .before in

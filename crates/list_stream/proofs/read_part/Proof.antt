@@ -41,8 +41,9 @@ returns c =
     let yes = sym (i .before .has-miss .ensures) ∙ i .if2 .taken in
     let f = miss-ends (n .line-length .result) (a .bytes .now) (n .line-length .ensures) yes in
     let e = d .list-miss .ensures in
+    let line = miss-line (a .line .now) (a .bytes .now) (a .lister .kept) (n .line-length .result) (t .if1 .taken) (n .line-length .ensures) yes in
     reads-line (a .lister) (a .line .now) (a .line .now) (a .bytes .now) (a .out .now) (a .at) (s .pre) (s .pre .fit .size) miss (d .list-miss .result) 2 _ _
-    (omega (arith, f .2)) (omega (arith, f .0, f .1, f .2)) (miss-line (a .line .now) (a .bytes .now) (a .lister .kept) (n .line-length .result) (t .if1 .taken) (n .line-length .ensures) yes)
+    (omega (arith, f .2)) (omega (arith, f .0, f .1, f .2)) line
     (e .0) (e .1 .0) (record { place = e .1 .1 .0; buffer = e .1 .1 .1 }) (c .after-line .ensures)
 
 slice-aggregate-keep-part : tie.Need-slice-aggregate-keep-part

@@ -18,8 +18,9 @@ returns : tie.Need-returns
 returns c =
     let i = c .before in
     let s = i .before .before .before .before in
+    let next = c .after-failure .ensures ∙ ap afterFailure (toZ-ofZ (s .fits .error)) in
     turned-failed _ _ _ _ _ _ _ _ _ (s .args .got) _ (toZ-ofZ (s .fits .got)) (i .if1 .taken)
-    (record { lister = refl; kept = refl; count = refl; buffer = sym (put-none _ 0); then = c .after-failure .ensures ∙ ap afterFailure (toZ-ofZ (s .fits .error)); room = omega arith; fit = s .pre .0 })
+    (record { lister = refl; kept = refl; count = refl; buffer = sym (put-none _ 0); then = next; room = omega arith; fit = s .pre .0 })
 
 cast-n : tie.Need-cast-n
 cast-n c =

@@ -56,7 +56,10 @@ write-requires c κs =
     f .1
 
 same-length : tie.Need-same-length Inv-loop μ-loop
-same-length c = let l = c .before .before .before .before .before .before .before .before .before .before .before .before .before .before .before in l .loop .inv .1 ∙ l .before .before .before .read .kept .0
+same-length c =
+    let d = c .before .before .before .before .before .before .before .before in
+    let l = d .before .before .before .before .before .before .before in
+    l .loop .inv .1 ∙ l .before .before .before .read .kept .0
 
 same-length-2 : tie.Need-same-length-2 Inv-loop μ-loop
 same-length-2 c =
@@ -101,10 +104,14 @@ returns-2 : tie.Need-returns-2 Inv-loop μ-loop
 returns-2 c = search needs
 
 sub-turns : tie.Need-sub-turns Inv-loop μ-loop
-sub-turns c = omega (arith, c .before .before .before .before .before .before .before .before .before .before .before .before .before .before .before .before .before .before .before .before .before .loop-test .taken)
+sub-turns c =
+    let d = c .before .before .before .before .before .before .before .before .before .before .before .before .before .before .before in
+    omega (arith, d .before .before .before .before .before .before .loop-test .taken)
 
 loop-less : tie.Need-loop-less Inv-loop μ-loop
-loop-less c = omega (arith, c .before .before .before .before .before .before .before .before .before .before .before .before .before .before .before .before .before .before .before .before .before .loop-test .taken)
+loop-less c =
+    let d = c .before .before .before .before .before .before .before .before .before .before .before .before .before .before .before in
+    omega (arith, d .before .before .before .before .before .before .loop-test .taken)
 
 loop-again : tie.Need-loop-again Inv-loop μ-loop
 loop-again c =
