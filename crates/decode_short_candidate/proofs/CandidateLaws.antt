@@ -1,4 +1,4 @@
--- A near message has most of the votes that are counted, so it is the one that is candidate. Assumes nothing.
+-- A near message has most of the votes that are counted, so the candidate is that message. Assumes nothing.
 use Prim.Native.Nat.{ℕ, zero, suc, _+_, _*_, _-_, _/_, _%_, _^_, _≤_, _<_}
 use mathlib.Core.Path.{_≡_, refl, ap, ap₂, sym, _∙_}
 use mathlib.Core.Bool.{true}
@@ -26,9 +26,10 @@ use Rattle.swar_lanes.proofs.LaneLaws.{lane-lt, lane-place}
 use Rattle.decode_short_errors.specs.Places.{plain}
 use Rattle.swar_majority.specs.Most.{threeOf, sevenOf, fifteenOf}
 use Rattle.decode_short_candidate.specs.Candidate.{Rest, Chosen, message, CandidateOf, CandidateOfBoth}
-use Rattle.decode_short_candidate.proofs.LaneVotes.{held-at, vote-at, openOf, allOf, open-is, all-is, open-4-0, open-4-1, open-8-0, open-8-1, open-8-2, open-16-0, open-16-1, open-16-2, open-16-3, all-8, all-halves, all-first}
+use Rattle.decode_short_candidate.proofs.LaneVotes.{held-at, vote-at, openOf, allOf, open-is, all-is}
+use Rattle.decode_short_candidate.proofs.LaneVotes.{open-4-0, open-4-1, open-8-0, open-8-1, open-8-2, open-16-0, open-16-1, open-16-2, open-16-3, all-8, all-halves, all-first}
 
--- the word of the coefficients of s
+-- `plain` is the word of the coefficients of s, where the coefficients are equal
 plain-3 : (q c0 c1 c2 : ℕ) (s : ℕ → ℕ) → c0 ≡ s 1 → c1 ≡ s 2 → c2 ≡ s 3 → (i : ℕ) → plain q c0 c1 c2 0 i ≡ linear 3 (λ k. s (suc k)) i % q
 unfolding plain linear sum
 plain-3 q c0 c1 c2 s e0 e1 e2 i =
@@ -41,7 +42,7 @@ plain-4 q c0 c1 c2 c3 s e0 e1 e2 e3 i =
     let e : s 1 * bit 0 i + s 2 * bit 1 i + s 3 * bit 2 i + s 4 * bit 3 i ≡ 0 + s 1 * bit 0 i + s 2 * bit 1 i + s 3 * bit 2 i + s 4 * bit 3 i = omega arith in
     rw (e0, e1, e2, e3) (ap (λ z. z % q) e)
 
--- what is left at a place, in its lane
+-- the lane of place j has the vote of place j for the constant
 residue-at : (q m x c0 c1 c2 c3 d : ℕ) (w : List ℕ) (s : ℕ → ℕ) → Rest q x c0 c1 c2 c3 d → Held w 0 x
     → ((i : ℕ) → i < 16 → plain q c0 c1 c2 c3 i ≡ linear m (λ k. s (suc k)) i % q) → (j : ℕ) → j < 16 → digit 4 d (laneOf j) ≡ residue q m s (at w) j
 unfolding residue
@@ -50,7 +51,7 @@ residue-at q m x c0 c1 c2 c3 d w s left held e j h =
     ∙ ap₂ (subMod q) (held-at w 0 x held j h ∙ ap (at w) (zero-add j)) (ap (plain q c0 c1 c2 c3) (lane-place j h) ∙ e j h)
     ∙ subMod-mod q (at w j) (linear m (λ k. s (suc k)) j)
 
--- sums over 32 places, the first sixteen and the second
+-- a sum over 32 places is one over the first sixteen and one over the second
 open-32 : (k : ℕ) → k < 4 → (f : ℕ → ℕ) → sum 32 (λ i. ifClear (bit k i) (f i)) ≡ sum 16 (λ i. ifClear (bit k i) (f i)) + sum 16 (λ i. ifClear (bit k i) (f (16 + i)))
 unfolding sum bit ifClear
 open-32 zero l f = omega arith
@@ -63,18 +64,19 @@ low-32 : (f : ℕ → ℕ) → sum 32 (λ i. ifClear (bit 4 i) (f i)) ≡ sum 16
 unfolding sum bit ifClear
 low-32 f = omega arith
 
--- a vote across two numbers
-across-at : (q x y d : ℕ) (w : List ℕ) → Held w 0 x → Held w 16 y → Lanes d (λ t. subMod q (digit 4 y t) (digit 4 x t)) → (j : ℕ) → j < 16 → digit 4 d (laneOf j) ≡ vote q 4 (at w) j
+-- for coefficient 4 the vote of a place is a lane of y minus the same lane of x
+across-at : (q x y d : ℕ) (w : List ℕ) → Held w 0 x → Held w 16 y → Lanes d (λ t. subMod q (digit 4 y t) (digit 4 x t))
+    → (j : ℕ) → j < 16 → digit 4 d (laneOf j) ≡ vote q 4 (at w) j
 unfolding vote
 across-at q x y d w held held′ e j h =
     e (laneOf j) (lane-lt j h) ∙ ap₂ (subMod q) (held-at w 16 y held′ j h ∙ ap (at w) (add-comm 16 j)) (held-at w 0 x held j h ∙ ap (at w) (zero-add j))
 
--- what is left at the places: all but the wrong ones are the constant
+-- the votes for the constant are right at all places but the wrong ones
 exactly : (q m : ℕ) (s y : ℕ → ℕ) → 0 < q → s 0 < q → ((i : ℕ) → i < 2 ^ m → y i < q) → sum (2 ^ m) (λ i. same (residue q m s y i) (s 0)) + distance q m s y ≡ 2 ^ m
 unfolding residues count ifClear
 exactly q m s y hq hs hy = residues-exact q m s y hq hs hy
 
--- A NEAR MESSAGE s of a word w whose first places x holds
+-- A MESSAGE s, and a word w whose first places x holds: the votes for the symbols of s and the distance
 module _ (q m x : ℕ) (al : isAlphabet q ≡ true) (s : ℕ → ℕ) (w : List ℕ) (hs : winner.Below q m s) (held : Held w 0 x) where
   first-vote : (k d : ℕ) → k < 4 → VotesIn q k x d → (j : ℕ) → j < 16 → bit k j ≡ 0 → digit 4 d (laneOf j) ≡ vote q k (at w) j
   first-vote k d h e j l z = vote-at q k x d w 0 h e held j l z ∙ ap (vote q k (at w)) (zero-add j)
@@ -83,14 +85,14 @@ module _ (q m x : ℕ) (al : isAlphabet q ≡ true) (s : ℕ → ℕ) (w : List 
   unfolding tally votes count
   own k l = tally-own q m s (at w) (alphabet-positive q al) (suc k) (omega arith) (hs (suc k) (omega arith))
 
-  -- its votes for a coefficient
+  -- the votes for coefficient k, up to 16 places
   own-open : (k d : ℕ) → k < 4 → k < m → 2 ^ m ≤ 16 → VotesIn q k x d → 2 ^ m ≤ 2 * (openOf (2 ^ m) k d (s (suc k)) + distance q m s (at w))
   own-open k d h l n e = omega (arith, own k l, open-is (2 ^ m) k d (vote q k (at w)) n (first-vote k d h e) (s (suc k)))
 
   first-below : Below q x → (i : ℕ) → i < 16 → at w i < q
   first-below b i h = omega (arith, held-at w 0 x held i h, ap (at w) (zero-add i), b (laneOf i) (lane-lt i h))
 
-  -- and for the constant
+  -- the votes for the constant, up to 16 places
   own-all : (c0 c1 c2 c3 d : ℕ) → Below q x → 2 ^ m ≤ 16 → Rest q x c0 c1 c2 c3 d
       → ((i : ℕ) → plain q c0 c1 c2 c3 i ≡ linear m (λ k. s (suc k)) i % q) → allOf (2 ^ m) d (s 0) + distance q m s (at w) ≡ 2 ^ m
   own-all c0 c1 c2 c3 d b n left e =
@@ -98,7 +100,7 @@ module _ (q m x : ℕ) (al : isAlphabet q ≡ true) (s : ℕ → ℕ) (w : List 
       ∙ exactly q m s (at w) (alphabet-positive q al) (hs 0 (omega arith)) (λ i h. first-below b i (omega (arith, h, n)))
 
   module _ (y : ℕ) (held′ : Held w 16 y) where
-    -- its votes for a coefficient among 32 places
+    -- the votes for coefficient k, below 4, of 32 places
     own-both : (k d e : ℕ) → k < 4 → m ≡ 5 → VotesIn q k x d → VotesIn q k y e
         → 32 ≤ 2 * (openOf 16 k d (s (suc k)) + openOf 16 k e (s (suc k)) + distance q m s (at w))
     own-both k d e h five f g =
@@ -112,7 +114,7 @@ module _ (q m x : ℕ) (al : isAlphabet q ≡ true) (s : ℕ → ℕ) (w : List 
           open-is 16 k e (λ j. vote q k (at w) (16 + j)) (omega arith) (vote-at q k y e w 16 h g held′) (s (suc k)),
         )
 
-    -- for the last coefficient, whose pairs stand in the same lane of both numbers
+    -- the votes for the last coefficient of 32 places
     own-last : (d : ℕ) → m ≡ 5 → Lanes d (λ t. subMod q (digit 4 y t) (digit 4 x t)) → 32 ≤ 2 * (allOf 16 d (s 5) + distance q m s (at w))
     own-last d five e =
         omega (
@@ -127,7 +129,7 @@ module _ (q m x : ℕ) (al : isAlphabet q ≡ true) (s : ℕ → ℕ) (w : List 
         across : (j : ℕ) → j < 16 → digit 4 d (laneOf j) ≡ vote q 4 (at w) j
         across j h = across-at q x y d w held held′ e j h
 
-    -- and for the constant, of which the first sixteen are counted
+    -- the votes for the constant of the first sixteen of 32 places
     own-first : (c0 c1 c2 c3 d : ℕ) → m ≡ 5 → Below q x → Below q y → Rest q x c0 c1 c2 c3 d
         → ((i : ℕ) → i < 16 → plain q c0 c1 c2 c3 i ≡ linear m (λ k. s (suc k)) i % q) → 16 ≤ allOf 16 d (s 0) + distance q m s (at w)
     own-first c0 c1 c2 c3 d five b b′ left e =
@@ -165,7 +167,7 @@ below-6 q a c0 c1 c2 c3 c4 ha h0 h1 h2 h3 h4 (suc (suc (suc (suc zero)))) l = h3
 below-6 q a c0 c1 c2 c3 c4 ha h0 h1 h2 h3 h4 (suc (suc (suc (suc (suc zero))))) l = h4
 below-6 q a c0 c1 c2 c3 c4 ha h0 h1 h2 h3 h4 (suc (suc (suc (suc (suc (suc k)))))) l = absurd (omega arith)
 
--- ALL VOTES that are counted of a near message of 4 places
+-- 4 PLACES: a near message has every vote that is counted
 module _ (q x : ℕ) (al : isAlphabet q ≡ true) (s : ℕ → ℕ) (w : List ℕ) (hs : winner.Below q 2 s) (held : Held w 0 x) (near : Near q 2 s (at w)) where
   most-4-0 : (d : ℕ) → VotesIn q 0 x d → 1 ≤ same (digit 4 d 0) (s 1)
   most-4-0 d e = omega (arith, near, own-open q 2 x al s w hs held 0 d (omega arith) (omega arith) (omega arith) e, open-4-0 d (s 1), same-le (digit 4 d 4) (s 1))
@@ -173,7 +175,7 @@ module _ (q x : ℕ) (al : isAlphabet q ≡ true) (s : ℕ → ℕ) (w : List �
   most-4-1 : (d : ℕ) → VotesIn q 1 x d → 1 ≤ same (digit 4 d 0) (s 2)
   most-4-1 d e = omega (arith, near, own-open q 2 x al s w hs held 1 d (omega arith) (omega arith) (omega arith) e, open-4-1 d (s 2), same-le (digit 4 d 2) (s 2))
 
-  -- place 0 is the constant itself
+  -- the vote of place 0 for the constant is its symbol
   first-residue : Below q x → residue q 2 s (at w) 0 ≡ digit 4 x 0
   unfolding residue linear sum bit offset
   first-residue b =
@@ -194,7 +196,7 @@ module _ (q x : ℕ) (al : isAlphabet q ≡ true) (s : ℕ → ℕ) (w : List �
         same-le (residue q 2 s (at w) 3) (s 0),
       )
 
--- MOST VOTES that are counted of a near message of 8 places
+-- 8 PLACES: a near message has most of the votes that are counted
 module _ (q x : ℕ) (al : isAlphabet q ≡ true) (s : ℕ → ℕ) (w : List ℕ) (hs : winner.Below q 3 s) (held : Held w 0 x) (near : Near q 3 s (at w)) where
   most-8-0 : (d : ℕ) → VotesIn q 0 x d → 2 ≤ threeOf d 4 8 (s 1)
   most-8-0 d e = omega (arith, near, own-open q 3 x al s w hs held 0 d (omega arith) (omega arith) (omega arith) e, open-8-0 d (s 1), same-le (digit 4 d 12) (s 1))
@@ -208,7 +210,7 @@ module _ (q x : ℕ) (al : isAlphabet q ≡ true) (s : ℕ → ℕ) (w : List �
   most-8 : (c0 c1 c2 d : ℕ) → Below q x → c0 ≡ s 1 → c1 ≡ s 2 → c2 ≡ s 3 → Rest q x c0 c1 c2 0 d → 2 ≤ threeOf d 2 4 (s 0)
   most-8 c0 c1 c2 d b e0 e1 e2 left = omega (arith, near, own-all q 3 x al s w hs held c0 c1 c2 0 d b (omega arith) left (plain-3 q c0 c1 c2 s e0 e1 e2), all-8 d (s 0))
 
--- of 16 places
+-- 16 PLACES: a near message has most of the votes that are counted
 module _ (q x : ℕ) (al : isAlphabet q ≡ true) (s : ℕ → ℕ) (w : List ℕ) (hs : winner.Below q 4 s) (held : Held w 0 x) (near : Near q 4 s (at w)) where
   most-16-0 : (d : ℕ) → VotesIn q 0 x d → 4 ≤ sevenOf d 4 8 1 (s 1)
   most-16-0 d e = omega (arith, near, own-open q 4 x al s w hs held 0 d (omega arith) (omega arith) (omega arith) e, open-16-0 d (s 1), same-le (digit 4 d 13) (s 1))
@@ -226,7 +228,7 @@ module _ (q x : ℕ) (al : isAlphabet q ≡ true) (s : ℕ → ℕ) (w : List �
   most-16 c0 c1 c2 c3 d b e0 e1 e2 e3 left =
       omega (arith, near, own-all q 4 x al s w hs held c0 c1 c2 c3 d b (omega arith) left (plain-4 q c0 c1 c2 c3 s e0 e1 e2 e3), all-first d (s 0), open-16-3 d (s 0), same-le (digit 4 d 14) (s 0))
 
--- of 32 places
+-- 32 PLACES: a near message has most of the votes that are counted
 module _ (q x y : ℕ) (al : isAlphabet q ≡ true) (s : ℕ → ℕ) (w : List ℕ) (hs : winner.Below q 5 s) (held : Held w 0 x) (held′ : Held w 16 y) (near : Near q 5 s (at w)) where
   most-32-0 : (d e : ℕ) → VotesIn q 0 x d → VotesIn q 0 y e → 8 ≤ fifteenOf d e 4 8 1 (s 1)
   unfolding fifteenOf
@@ -261,9 +263,9 @@ module _ (q x y : ℕ) (al : isAlphabet q ≡ true) (s : ℕ → ℕ) (w : List 
         same-le (digit 4 d 14) (s 0),
       )
 
--- the symbols of a candidate of m coefficients, one after the other
-symbols-are : (m a c0 c1 c2 c3 c4 : ℕ) (s : ℕ → ℕ) → m ≤ 5 → a ≡ s 0 → (0 < m → c0 ≡ s 1) → (1 < m → c1 ≡ s 2) → (2 < m → c2 ≡ s 3) → (3 < m → c3 ≡ s 4) → (4 < m → c4 ≡ s 5)
-    → (k : ℕ) → k < suc m → at (message a c0 c1 c2 c3 c4) k ≡ s k
+-- a candidate is s where each of its first m + 1 symbols is that of s
+symbols-are : (m a c0 c1 c2 c3 c4 : ℕ) (s : ℕ → ℕ) → m ≤ 5 → a ≡ s 0 → (0 < m → c0 ≡ s 1) → (1 < m → c1 ≡ s 2) → (2 < m → c2 ≡ s 3)
+    → (3 < m → c3 ≡ s 4) → (4 < m → c4 ≡ s 5) → (k : ℕ) → k < suc m → at (message a c0 c1 c2 c3 c4) k ≡ s k
 unfolding message
 symbols-are m a c0 c1 c2 c3 c4 s h e e0 e1 e2 e3 e4 zero l = e
 symbols-are m a c0 c1 c2 c3 c4 s h e e0 e1 e2 e3 e4 (suc zero) l = e0 (omega arith)
@@ -273,7 +275,7 @@ symbols-are m a c0 c1 c2 c3 c4 s h e e0 e1 e2 e3 e4 (suc (suc (suc (suc zero))))
 symbols-are m a c0 c1 c2 c3 c4 s h e e0 e1 e2 e3 e4 (suc (suc (suc (suc (suc zero))))) l = e4 (omega arith)
 symbols-are m a c0 c1 c2 c3 c4 s h e e0 e1 e2 e3 e4 (suc (suc (suc (suc (suc (suc k)))))) l = absurd (omega arith)
 
--- THE GUESSES of 4 places, of 8, of 16 and of 32
+-- THE CANDIDATES of words of 4, 8, 16 and 32 places
 pub candidate-4 : (q x d0 d1 a c0 c1 : ℕ) → isAlphabet q ≡ true → Below q x
     → VotesIn q 0 x d0 → Chosen q 1 (same (digit 4 d0 0)) c0
     → VotesIn q 1 x d1 → Chosen q 1 (same (digit 4 d1 0)) c1

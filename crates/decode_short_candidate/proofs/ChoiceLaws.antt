@@ -1,14 +1,13 @@
--- The small steps to a candidate: shifted lanes, what is left of a word, and the symbol that most lanes are. Assumes nothing.
-use Prim.Native.Nat.{ℕ, _+_, _*_, _-_, _/_, _%_, _^_, _≤_, _<_}
+-- The steps to a candidate: the word minus its coefficients, and the symbol that most lanes have. Assumes nothing.
+use Prim.Native.Nat.{ℕ, _+_, _-_, _%_, _^_, _≤_, _<_}
 use mathlib.Core.Path.{_≡_, refl, ap, sym, _∙_}
 use mathlib.Core.Logic.{inl, inr}
 use mathlib.Core.Bool.{true}
 use native.Mathlib.Omega.{arith}
-use native.Mathlib.Decide.{ℕ-discrete, decLt}
-use native.Mathlib.Nat.{mod-lt, mod-eq-of-lt, div-eq-of-lt, div-one, lt-of-lt-of-le}
+use native.Mathlib.Decide.{ℕ-discrete}
+use native.Mathlib.Nat.{mod-lt, mod-eq-of-lt, div-one}
 use borrow.Author.Tests.{ltb-true}
 use lib.Dec.{ltb}
-use lib.Pow.{pow-mono}
 use lib.Bits.{bitAnd}
 use Rattle.code_theory.specs.Sum.{every}
 use Rattle.code_theory.specs.Modular.{subMod, same}
@@ -17,26 +16,25 @@ use Rattle.code_theory.proofs.QuestionLaws.{Alphabet, alphabet, alphabet-bounds
 use Rattle.code_theory.proofs.EveryLaws.{every-at}
 use Rattle.code_theory.proofs.ModularLaws.{same-ne}
 use Rattle.swar_theory.specs.Digit.{digit}
-use Rattle.swar_theory.proofs.DigitLaws.{digit-down}
-use Rattle.swar_lanes.specs.Lane.{offset, Lanes, Below}
+use Rattle.swar_lanes.specs.Lane.{offset, Lanes}
 use Rattle.swar_lanes.specs.Ballot.{laneBit}
 use Rattle.decode_short_errors.specs.Places.{plain}
 use Rattle.swar_majority.specs.Most.{Most}
 use Rattle.decode_short_candidate.specs.Candidate.{Rest, Chosen}
 
--- a word of coefficients, and what is left without it
+-- the lanes of the word minus those of the code
 pub rest-is : (q x c0 c1 c2 c3 code d : ℕ) → Lanes code (λ t. plain q c0 c1 c2 c3 (offset t))
     → Lanes d (λ t. subMod q (digit 4 x t) (digit 4 code t)) → Rest q x c0 c1 c2 c3 d
 rest-is q x c0 c1 c2 c3 code d e f t h = f t h ∙ ap (subMod q (digit 4 x t)) (e t h)
 
--- the symbol of a number
+-- an `and` with q - 1 leaves the remainder by q
 pub mask-le : (q : ℕ) → isAlphabet q ≡ true → 1 ≤ q
 mask-le q al = alphabet-positive q al
 
 pub symbol-is : (q x : ℕ) → isAlphabet q ≡ true → bitAnd x (q - 1) ≡ x % q
 symbol-is q x al = mask-mod q x (alphabet q al)
 
--- THE SYMBOL THAT MOST LANES ARE
+-- THE SYMBOL that most lanes have
 pub chosen-most : (q n : ℕ) (f : ℕ → ℕ) (x r : ℕ) → isAlphabet q ≡ true → Most n f x → r ≡ x % q → Chosen q n f r
 chosen-most q n f x r al most e = record {
   fits = omega (arith, e, mod-lt x {m = q} (alphabet-positive q al));
@@ -59,19 +57,22 @@ same-is a b l = go (ℕ-discrete a b)
     go (yes e) = e
     go (no d) = absurd (omega (arith, same-ne a b d))
 
--- and of lane 0 alone
+-- the symbol of lane 0 alone
 pub chosen-one : (q x r : ℕ) → isAlphabet q ≡ true → r ≡ x % q → Chosen q 1 (same (digit 4 x 0)) r
 chosen-one q x r al e = record {
   fits = omega (arith, e, mod-lt x {m = q} (alphabet-positive q al));
   is = λ v l k. e ∙ low-lane q x (alphabet q al) ∙ ap (λ z. z % q) (same-is (digit 4 x 0) v k) ∙ mod-eq-of-lt l;
 }
 
--- ---- lanes by the bits of their places
--- another count of the same lanes
+-- a symbol is chosen by any function that counts the same lanes
 pub chosen-by : (q n : ℕ) (f g : ℕ → ℕ) (r : ℕ) → f ≡ g → Chosen q n f r → Chosen q n g r
 chosen-by q n f g r e h = rw e at h
 
--- three bits below 4, each larger than the one before, are three of the four bits of a lane
+-- the counts of equal lanes are equal
+pub lanes-same : {A : Type 0} (f : ℕ → ℕ → ℕ → A) {i j k a b c : ℕ} → i ≡ a → j ≡ b → k ≡ c → f i j k ≡ f a b c
+lanes-same f {j = j} {k = k} {a = a} {b = b} e g h = ap (λ x. f x j k) e ∙ ap (λ x. f a x k) g ∙ ap (f a b) h
+
+-- three different bits of a place are three different bits of a lane, so their sum is a lane
 three-bits : every 4 (λ k. every k (λ j. every j (λ i. ltb (2 ^ laneBit i + 2 ^ laneBit j + 2 ^ laneBit k) 16))) ≡ true
 unfolding every laneBit
 three-bits = refl

@@ -1,5 +1,5 @@
 -- The votes of a word's places as they stand in the lanes, and how many of them are left in 3, 7 or 15 lanes. Assumes nothing.
-use Prim.Native.Nat.{ℕ, zero, suc, _+_, _*_, _/_, _%_, _^_, _≤_, _<_}
+use Prim.Native.Nat.{ℕ, zero, suc, _+_, _/_, _^_, _≤_, _<_}
 use mathlib.Core.Path.{_≡_, refl, ap, ap₂, _∙_}
 use mathlib.Core.Bool.{true}
 use mathlib.Core.List.{List}
@@ -22,7 +22,7 @@ use Rattle.swar_lanes.proofs.LaneLaws.{lane-lt, lane-place}
 use Rattle.swar_lanes.proofs.SpotLaws.{lane-up}
 use Rattle.swar_majority.specs.Most.{threeOf, sevenOf}
 
--- each bit of the place is one of the lane
+-- bit k of a place is bit `laneBit k` of its lane
 same-bits : every 4 (λ k. every 16 (λ j. eqb (bit (laneBit k) (laneOf j)) (bit k j))) ≡ true
 unfolding every laneOf bit laneBit
 same-bits = refl
@@ -30,11 +30,11 @@ same-bits = refl
 lane-bit : (k j : ℕ) → k < 4 → j < 16 → bit (laneBit k) (laneOf j) ≡ bit k j
 lane-bit k j hk h = eqb-true _ _ (every-at 16 (λ j. eqb (bit (laneBit k) (laneOf j)) (bit k j)) (every-at 4 (λ k. every 16 (λ j. eqb (bit (laneBit k) (laneOf j)) (bit k j))) same-bits k hk) j h)
 
--- the symbols that the lanes hold, by their places
+-- the lane of place j has the symbol of place j
 pub held-at : (w : List ℕ) (i x : ℕ) → Held w i x → (j : ℕ) → j < 16 → digit 4 x (laneOf j) ≡ at w (i + j)
 held-at w i x held j h = held (laneOf j) (lane-lt j h) ∙ ap (λ z. at w (i + z)) (lane-place j h)
 
--- A VOTE in its lane
+-- THE VOTE of place j stands in the lane of place j
 pub vote-at : (q k x d : ℕ) (w : List ℕ) (i : ℕ) → k < 4 → VotesIn q k x d → Held w i x → (j : ℕ) → j < 16 → bit k j ≡ 0 → digit 4 d (laneOf j) ≡ vote q k (at w) (i + j)
 unfolding vote
 vote-at q k x d w i hk votes held j h z =
@@ -51,8 +51,9 @@ openOf n k d v = sum n (λ j. ifClear (bit k j) (same (digit 4 d (laneOf j)) v))
 unfoldable pub allOf : ℕ → ℕ → ℕ → ℕ
 allOf n d v = sum n (λ j. same (digit 4 d (laneOf j)) v)
 
--- where the lanes of the open places are the casts f
-pub open-is : (n k d : ℕ) (f : ℕ → ℕ) → n ≤ 16 → ((j : ℕ) → j < 16 → bit k j ≡ 0 → digit 4 d (laneOf j) ≡ f j) → (v : ℕ) → openOf n k d v ≡ sum n (λ j. ifClear (bit k j) (same (f j) v))
+-- the counts are those of f, where the lane of place j is f j
+pub open-is : (n k d : ℕ) (f : ℕ → ℕ) → n ≤ 16 → ((j : ℕ) → j < 16 → bit k j ≡ 0 → digit 4 d (laneOf j) ≡ f j)
+    → (v : ℕ) → openOf n k d v ≡ sum n (λ j. ifClear (bit k j) (same (f j) v))
 unfolding openOf ifClear
 open-is n k d f l h v = sum-ext n _ _ (λ j b. go j (bit k j) (h j (omega (arith, l, b))))
   where
@@ -64,7 +65,7 @@ pub all-is : (n d : ℕ) (f : ℕ → ℕ) → n ≤ 16 → ((j : ℕ) → j < 1
 unfolding allOf
 all-is n d f l h v = sum-ext n _ _ (λ j b. ap (λ x. same x v) (h j (omega (arith, l, b))))
 
--- THE LANES that are counted, and the one that is left out
+-- THE LANES that are counted, and the one lane that is left out
 module _ (d v : ℕ) where
   pub open-4-0 : openOf 4 0 d v ≡ same (digit 4 d 0) v + same (digit 4 d 4) v
   unfolding openOf sum ifClear bit laneOf
@@ -102,7 +103,7 @@ module _ (d v : ℕ) where
   unfolding openOf sum ifClear bit laneOf sevenOf
   open-16-3 = omega arith
 
-  -- all places, for the constant
+  -- the lanes of all places, for the constant
   pub all-8 : allOf 8 d v ≤ threeOf d 2 4 v + 5
   unfolding allOf sum laneOf threeOf
   all-8 = omega (arith, same-le (digit 4 d 6) v, same-le (digit 4 d 8) v, same-le (digit 4 d 10) v, same-le (digit 4 d 12) v, same-le (digit 4 d 14) v)

@@ -1,6 +1,6 @@
-// The message of a word of 4, 8, 16 or 32 places, by the value that most votes have, with no count of the others. The word stands in the
-// four-bit lanes of one number, or of two, as lanes packs it. One vote is left out where their number is even; if any message is near the
-// word, it is this one.
+// The candidate of a word of 4, 8, 16 or 32 places: the only message that can be near the word. For each symbol an odd number of votes is
+// taken, and the symbol is the value that more than half of them have; the votes for the other values are not counted. The word stands in
+// the four-bit lanes of one number, or of two, as swar_lanes packs it.
 ghost use mathlib.Core.Path.{_≡_};
 ghost use mathlib.Core.Bool.{true};
 ghost use Prim.Native.Nat.{_%_, _^_, _<_};
@@ -10,7 +10,7 @@ ghost use Rattle.swar_lanes.specs.Ballot.{laneBit};
 ghost use Rattle.swar_majority.specs.Most.{threeOf, sevenOf, fifteenOf};
 ghost use Rattle.decode_short_candidate.specs.Candidate.{Rest, Chosen, messageOf, CandidateOf, CandidateOfBoth};
 
-// What is left of a word when the word of four coefficients is taken out: the votes for the constant.
+// The word minus the word of four coefficients, modulo q: the votes for the constant.
 fn rest(q: u64, x: u64, c0: u64, c1: u64, c2: u64, c3: u64) -> u64
     requires { ⌜ (isAlphabet q ≡ true) × Below q x × (c0 < q) × (c1 < q) × (c2 < q) × (c3 < q) ⌝ }
     ensures { λ r. ⌜ Rest q x c0 c1 c2 c3 r ⌝ }
@@ -26,7 +26,7 @@ fn symbol(q: u64, x: u64) -> u64
     x & (q - 1)
 }
 
-// The symbol that two or more of three lanes are: those of the places 0, 2^i and 2^j.
+// The symbol that two or more of three lanes have: those of the places 0, 2^i and 2^j.
 fn three(q: u64, d: u64, i: u32, j: u32) -> u64
     requires { ⌜ (isAlphabet q ≡ true) × (i < 4) × (j < 4) ⌝ }
     ensures { λ r. ⌜ Chosen q 2 (threeOf d (2 ^ laneBit i) (2 ^ laneBit j)) r ⌝ }
@@ -37,7 +37,7 @@ fn three(q: u64, d: u64, i: u32, j: u32) -> u64
     )
 }
 
-// The symbol that four or more of seven lanes are: those of the places with one or two of the bits i, j and k set, or none.
+// The symbol that four or more of seven lanes have: those of the places with none, one or two of the bits i, j and k set.
 fn seven(q: u64, d: u64, i: u32, j: u32, k: u32) -> u64
     requires { ⌜ (isAlphabet q ≡ true) × (i < j) × (j < k) × (k < 4) ⌝ }
     ensures { λ r. ⌜ Chosen q 4 (sevenOf d (2 ^ laneBit i) (2 ^ laneBit j) (2 ^ laneBit k)) r ⌝ }
@@ -53,7 +53,8 @@ fn seven(q: u64, d: u64, i: u32, j: u32, k: u32) -> u64
     )
 }
 
-// The symbol that eight or more of fifteen lanes are: those seven of d, and the same of e with the one whose place has all three bits set.
+// The symbol that eight or more of fifteen lanes have: these seven lanes of d, the same seven of e, and the lane of e whose place has all
+// three bits set.
 fn fifteen(q: u64, d: u64, e: u64, i: u32, j: u32, k: u32) -> u64
     requires { ⌜ (isAlphabet q ≡ true) × (i < j) × (j < k) × (k < 4) ⌝ }
     ensures { λ r. ⌜ Chosen q 8 (fifteenOf d e (2 ^ laneBit i) (2 ^ laneBit j) (2 ^ laneBit k)) r ⌝ }
@@ -70,7 +71,7 @@ fn fifteen(q: u64, d: u64, e: u64, i: u32, j: u32, k: u32) -> u64
     )
 }
 
-// The constant and the coefficients of a message; those from m on are 0.
+// The constant and the coefficients of a message; the coefficients from m on are 0.
 pub struct Candidate {
     pub constant: u64,
     pub c0: u64,
@@ -173,7 +174,7 @@ pub fn candidate_32(q: u64, x: u64, y: u64) -> Candidate
         1,
         2,
     );
-    // The partner of a place in x, for the last coefficient, stands in the same lane of y.
+    // For the last coefficient, the partner of a place in x stands in the same lane of y.
     let d = swar_lanes::less(q, y, x);
     let c4 = fifteen(q, d, swar_lanes::partners(3, d), 0, 1, 2);
     let left = rest(q, x, c0, c1, c2, c3);

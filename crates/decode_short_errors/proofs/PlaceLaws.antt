@@ -1,9 +1,9 @@
 -- Sums modulo q in lanes, and the word of four coefficients. Assumes nothing.
-use Prim.Native.Nat.{ℕ, zero, suc, _+_, _*_, _-_, _/_, _%_, _^_, _≤_, _<_}
-use mathlib.Core.Path.{_≡_, refl, ap, ap₂, sym, _∙_}
+use Prim.Native.Nat.{ℕ, _+_, _*_, _-_, _%_, _≤_, _<_}
+use mathlib.Core.Path.{_≡_, refl, ap, ap₂, _∙_}
 use mathlib.Core.Bool.{true}
 use native.Mathlib.Omega.{arith}
-use native.Mathlib.Nat.{mod-lt, mod-add-mod, mul-le-mul-left, mul-one, zero-add, mod-eq-of-lt}
+use native.Mathlib.Nat.{mod-lt, mod-add-mod, mul-le-mul-left, mul-one, zero-add}
 use lib.Dec.{eqb, ltb}
 use lib.Bits.{bitAnd}
 use borrow.Author.Tests.{ltb-true}
@@ -16,13 +16,13 @@ use Rattle.code_theory.proofs.SumLaws.{sum-ext, sum-le}
 use Rattle.code_theory.proofs.EveryLaws.{every-at}
 use Rattle.code_theory.proofs.ModularLaws.{same-le}
 use Rattle.swar_theory.specs.Digit.{digit}
-use Rattle.swar_theory.proofs.DigitLaws.{digit-lt, digit-and, digit-add, add-lt, digit-times, times-lt}
+use Rattle.swar_theory.proofs.DigitLaws.{digit-and, digit-add, add-lt, digit-times, times-lt}
 use Rattle.swar_lanes.specs.Lane.{offset, Lanes, Below}
 use Rattle.swar_lanes.proofs.LaneLaws.{lanes-are, none-lanes, mask-lane, spread-lanes}
 use Rattle.decode_short_lead.specs.Lead.{Mask}
 use Rattle.decode_short_errors.specs.Places.{plain, zeroPlaces}
 
--- a marked lane of a multiple
+-- a times a mark, 0 or 1, is at most a
 part-le : (a d : ℕ) → d ≤ 1 → a * d ≤ a
 part-le a d h = omega (arith, mul-le-mul-left a h, mul-one a)
 
@@ -45,23 +45,27 @@ module _ (q c a marks : ℕ) (al : isAlphabet q ≡ true) (hc : c < 184467440737
   pub plus-lt : c + a * marks < 18446744073709551616
   plus-lt = add-lt 4 16 c (a * marks) hc part-lt fits
 
-  pub few-of : (1 ≤ q) × (q ≤ 8)
-  few-of = omega (arith, few)
-
   pub plus-is : Lanes (bitAnd (c + a * marks) ((q - 1) * 0x1111_1111_1111_1111)) (λ t. (digit 4 c t + a * digit 4 marks t) % q)
   plus-is t h =
       digit-and 4 (c + a * marks) ((q - 1) * 0x1111_1111_1111_1111) t
       ∙ ap₂ bitAnd (digit-add 4 16 c (a * marks) hc part-lt fits t h ∙ ap (λ z. digit 4 c t + z) (part-lane t h)) (mask-lane q al t h)
       ∙ mask-mod q _ (alphabet q al)
 
+-- a times a mask has a or 0 in each lane, which is below q
+pub part-below : (q a marks : ℕ) → isAlphabet q ≡ true → a < q → marks < 18446744073709551616 → Mask marks → Below q (a * marks)
+part-below q a marks al l hm mk t h = omega (arith, digit-times 4 16 a marks hm fits t h, part-le a (digit 4 marks t) (mk t h))
+  where
+    fits : (t : ℕ) → t < 16 → a * digit 4 marks t < 16
+    fits t h = omega (arith, part-le a (digit 4 marks t) (mk t h), alphabet-bounds q (alphabet q al))
+
 pub plus-below : (q r : ℕ) (f : ℕ → ℕ) → isAlphabet q ≡ true → Lanes r (λ t. f t % q) → Below q r
 plus-below q r f al e t h = omega (arith, e t h, mod-lt (f t) (alphabet-positive q al))
 
--- marks that are written out, by one computed test
+-- a literal is a mask of marks, by one computed test
 pub mask-is : (x : ℕ) → every 16 (λ t. ltb (digit 4 x t) 2) ≡ true → Mask x
 mask-is x e t h = omega (arith, ltb-true (digit 4 x t) 2 (every-at 16 (λ t. ltb (digit 4 x t) 2) e t h))
 
--- the marks of the places whose bit k is 1
+-- the literals that mark the places whose bit k is 1
 marks-are : (k x : ℕ) → every 16 (λ t. eqb (digit 4 x t) (bit k (offset t))) ≡ true → Lanes x (λ t. bit k (offset t))
 marks-are k x e = lanes-are x (λ t. bit k (offset t)) e
 
@@ -81,7 +85,7 @@ marks-3 : Lanes 0x1010_1010_1010_1010 (λ t. bit 3 (offset t))
 unfolding every digit bit offset
 marks-3 = marks-are 3 0x1010_1010_1010_1010 refl
 
--- THE CODE, one coefficient after the other
+-- THE CODE is computed one coefficient after the other
 pub code-is : (q c0 c1 c2 c3 x0 x1 x2 x3 : ℕ)
     → Lanes x0 (λ t. (digit 4 0 t + c0 * digit 4 0x1100_1100_1100_1100 t) % q)
     → Lanes x1 (λ t. (digit 4 x0 t + c1 * digit 4 0x1111_0000_1111_0000 t) % q)
@@ -118,14 +122,7 @@ plain-lt q c0 c1 c2 c3 i h = mod-lt _ h
 pub plain-below : (q c0 c1 c2 c3 code : ℕ) → isAlphabet q ≡ true → Lanes code (λ t. plain q c0 c1 c2 c3 (offset t)) → Below q code
 plain-below q c0 c1 c2 c3 code al e t h = omega (arith, e t h, plain-lt q c0 c1 c2 c3 (offset t) (alphabet-positive q al))
 
--- the constant in every lane
-pub constant-below : (q a : ℕ) → isAlphabet q ≡ true → a < q → Below q (a * 0x1111_1111_1111_1111)
-constant-below q a al l t h = omega (arith, spread-lanes a (omega (arith, alphabet-bounds q (alphabet q al))) t h)
-
-pub constant-lt : (q a : ℕ) → isAlphabet q ≡ true → a < q → a * 0x1111_1111_1111_1111 < 18446744073709551616
-constant-lt q a al l = omega (arith, alphabet-bounds q (alphabet q al))
-
--- WHAT IS LEFT when the code, and then the constant, are taken out
+-- THE ERRORS are the word minus the code, minus the constant
 pub errors-are : (q x code a y r : ℕ) → isAlphabet q ≡ true → a < q
     → Lanes y (λ t. subMod q (digit 4 x t) (digit 4 code t))
     → Lanes r (λ t. subMod q (digit 4 y t) (digit 4 (a * 0x1111_1111_1111_1111) t))
@@ -133,17 +130,17 @@ pub errors-are : (q x code a y r : ℕ) → isAlphabet q ≡ true → a < q
 errors-are q x code a y r al l e f t h =
     f t h ∙ ap₂ (subMod q) (e t h) (spread-lanes a (omega (arith, alphabet-bounds q (alphabet q al))) t h)
 
--- the places with the error v are no more than the marked ones
+-- the marked places with the error v are no more than the marked places
 pub equal-le : (e v marks p : ℕ) → Lanes p (λ t. digit 4 marks t * same (digit 4 e t) v) → sum 16 (digit 4 marks) < 15 → sum 16 (digit 4 p) < 15
 equal-le e v marks p l h =
     omega (arith, sum-le 16 (digit 4 p) (digit 4 marks) (λ t k. omega (arith, l t k, part-le (digit 4 marks t) (same (digit 4 e t) v) (same-le (digit 4 e t) v))))
 
--- THE PLACES WITHOUT AN ERROR
+-- THE PLACES WITHOUT AN ERROR are the marked lanes of e that are 0
 pub zeros-are : (e marks p r : ℕ) → Lanes p (λ t. digit 4 marks t * same (digit 4 e t) 0) → r ≡ sum 16 (digit 4 p) → r ≡ zeroPlaces e marks
 unfolding zeroPlaces
 zeros-are e marks p r l f = f ∙ sum-ext 16 _ _ (λ t k. l t k)
 
--- they are no more than the marked ones
+-- the marked places without an error are no more than the marked places
 pub zeros-le : (e marks : ℕ) → zeroPlaces e marks ≤ sum 16 (digit 4 marks)
 unfolding zeroPlaces
 zeros-le e marks = sum-le 16 _ (digit 4 marks) (λ t k. part-le (digit 4 marks t) (same (digit 4 e t) 0) (same-le (digit 4 e t) 0))

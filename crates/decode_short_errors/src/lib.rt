@@ -1,7 +1,8 @@
-// A received word beside the word of a message, in lanes: sixteen places stand in the four-bit lanes of one number, as lanes packs them.
+// The errors of a received word: the word minus the word of a message. Sixteen places stand in the four-bit lanes of one number, as
+// swar_lanes packs them.
 ghost use mathlib.Core.Path.{_≡_};
 ghost use mathlib.Core.Bool.{true};
-ghost use Prim.Native.Nat.{ℕ, _+_, _*_, _%_, _<_};
+ghost use Prim.Native.Nat.{_+_, _*_, _%_, _<_};
 ghost use Rattle.code_theory.specs.Sum.{sum};
 ghost use Rattle.code_theory.specs.Modular.{subMod};
 ghost use Rattle.code_theory.specs.Question.{isAlphabet};
@@ -10,7 +11,7 @@ ghost use Rattle.swar_lanes.specs.Lane.{offset, Lanes, Below};
 ghost use Rattle.decode_short_lead.specs.Lead.{Mask};
 ghost use Rattle.decode_short_errors.specs.Places.{plain, zeroPlaces};
 
-// The lanes of c, plus a where a lane is marked, modulo q.
+// The lanes of c, plus a in each lane that is marked, modulo q.
 fn plus(q: u64, c: u64, a: u64, marks: u64) -> u64
     requires { ⌜ (isAlphabet q ≡ true) × Below q c × (a < q) × Mask marks ⌝ }
     ensures { λ r. ⌜ Lanes r (λ t. (digit 4 c t + a * digit 4 marks t) % q) ⌝ }
@@ -29,7 +30,7 @@ pub fn code(q: u64, c0: u64, c1: u64, c2: u64, c3: u64) -> u64
     plus(q, x, c3, 0x1010_1010_1010_1010)
 }
 
-// What is left of a word when the code and the constant are taken out: 0 in every place that is as it was sent.
+// The word minus the code minus the constant, modulo q: 0 in every place that is as it was sent.
 pub fn errors(q: u64, x: u64, code: u64, a: u64) -> u64
     requires { ⌜ (isAlphabet q ≡ true) × Below q x × Below q code × (a < q) ⌝ }
     ensures { λ r. ⌜ Lanes r (λ t. subMod q (subMod q (digit 4 x t) (digit 4 code t)) a) ⌝ }
@@ -37,7 +38,7 @@ pub fn errors(q: u64, x: u64, code: u64, a: u64) -> u64
     swar_lanes::less(q, swar_lanes::less(q, x, code), a * 0x1111_1111_1111_1111)
 }
 
-// How many of the marked places, fewer than 15, have no error.
+// How many of the marked places have no error. Fewer than 15 places are marked.
 pub fn right(e: u64, marks: u64) -> u32
     requires { ⌜ Below 8 e × Mask marks × (sum 16 (digit 4 marks) < 15) ⌝ }
     ensures { λ r. ⌜ r ≡ zeroPlaces e marks ⌝ }

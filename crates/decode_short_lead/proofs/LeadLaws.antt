@@ -1,4 +1,4 @@
--- Sums and maxima from 1 on. Assumes nothing.
+-- Sums and maxima over the values from 1 on. Assumes nothing.
 use Prim.Native.Nat.{ℕ, zero, suc, _+_, _*_, _-_, _≤_, _<_, max}
 use mathlib.Core.Path.{_≡_, ap, ap₂, sym, _∙_}
 use mathlib.Core.Logic.{_⊎_, inl, inr}
@@ -6,7 +6,7 @@ use native.Mathlib.Nat.{eq-or-lt-of-le, zero-add}
 use native.Mathlib.Omega.{arith}
 use Rattle.code_theory.proofs.ErrorLaws.{sumFrom1, maxFrom1}
 
--- one term more, as a loop from 1 counts
+-- the sum and the maximum over the values from 1 to v, by those up to v - 1
 pub sum-more : (v : ℕ) (f : ℕ → ℕ) → 1 ≤ v → sumFrom1 (v + 1 - 1) f ≡ sumFrom1 (v - 1) f + f v
 unfolding sumFrom1
 sum-more v f h =
@@ -21,7 +21,7 @@ max-more v f h =
     let g : suc (v - 1) ≡ v = omega arith in
     ap (λ z. maxFrom1 z f) e ∙ ap (λ z. max (maxFrom1 (v - 1) f) (f z)) g
 
--- the terms up to v are among those up to n
+-- the sum of the terms up to v is at most that of the terms up to n
 pub sum-part : (v n : ℕ) (f : ℕ → ℕ) → v ≤ n → sumFrom1 v f ≤ sumFrom1 n f
 unfolding sumFrom1
 sum-part v zero f h = let e : v ≡ 0 = omega arith in rw e (omega arith)
@@ -31,19 +31,19 @@ sum-part v (suc n) f h = go (eq-or-lt-of-le h) (sum-part v n f)
     go (inl e) ih = rw e (omega arith)
     go (inr l) ih = omega (arith, ih (omega arith))
 
--- what a loop at v has and the votes for v are no more than all of them
+-- the terms before v and the term of v are at most all terms before q
 pub sum-within : (v q : ℕ) (f : ℕ → ℕ) → 1 ≤ v → v < q → sumFrom1 (v - 1) f + f v ≤ sumFrom1 (q - 1) f
 sum-within v q f h l = omega (arith, sum-more v f h, sum-part (v + 1 - 1) (q - 1) f (omega arith))
 
--- the most for one is at most all
+-- the maximum is at most the sum
 pub max-le-sum : (n : ℕ) (f : ℕ → ℕ) → maxFrom1 n f ≤ sumFrom1 n f
 unfolding maxFrom1 sumFrom1
 max-le-sum zero f = omega arith
 max-le-sum (suc n) f = omega (arith, max-le-sum n f)
 
--- THE LOOP at v: b wrong votes for the values below v, and m the most for one of them
+-- THE LOOP at v: b is the number of votes for the values from 1 to v - 1, and m the most for one of them
 module _ (q v b m : ℕ) (f : ℕ → ℕ) (eb : b ≡ sumFrom1 (v - 1) f) (em : m ≡ maxFrom1 (v - 1) f) where
-  -- a turn with n votes for v
+  -- a turn of the loop adds the n votes for v
   pub turn-sum : (n : ℕ) → 1 ≤ v → n ≡ f v → b + n ≡ sumFrom1 (v + 1 - 1) f
   turn-sum n h e = ap₂ (λ x y. x + y) eb e ∙ sym (sum-more v f h)
 
@@ -53,14 +53,14 @@ module _ (q v b m : ℕ) (f : ℕ → ℕ) (eb : b ≡ sumFrom1 (v - 1) f) (em :
   pub turn-fits : (n s : ℕ) → 1 ≤ v → v < q → n ≡ f v → sumFrom1 (q - 1) f < s → b + n < s
   turn-fits n s h l e g = omega (arith, eb, e, g, sum-within v q f h l)
 
-  -- the end
+  -- at the end of the loop v is q
   pub last-fits : (h : ℕ) → v ≡ q → 2 * sumFrom1 (q - 1) f ≤ h → b + m ≤ h
   last-fits h e g = omega (arith, eb, em, ap (λ z. sumFrom1 (z - 1) f) e, max-le-sum (v - 1) f, g)
 
   pub last-is : (h : ℕ) → v ≡ q → h - b - m ≡ h - sumFrom1 (q - 1) f - maxFrom1 (q - 1) f
   last-is h e = ap₂ (λ x y. h - x - y) (eb ∙ ap (λ z. sumFrom1 (z - 1) f) e) (em ∙ ap (λ z. maxFrom1 (z - 1) f) e)
 
--- ONE OTHER VALUE
+-- ONE OTHER VALUE: for q 2 the sum and the maximum are the term of 1
 pub one-sum : (q : ℕ) (f : ℕ → ℕ) → q ≡ 2 → sumFrom1 (q - 1) f ≡ f 1
 unfolding sumFrom1
 one-sum q f e = ap (λ z. sumFrom1 (z - 1) f) e ∙ zero-add (f 1)

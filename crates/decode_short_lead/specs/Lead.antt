@@ -1,4 +1,4 @@
--- The votes that stand in lanes, and masks of lanes.
+-- Counts of the votes in lanes, and masks of lanes.
 use Prim.Native.Nat.{ℕ, _≤_, _<_}
 use Rattle.code_theory.specs.Sum.{sum}
 use Rattle.code_theory.specs.Modular.{same}

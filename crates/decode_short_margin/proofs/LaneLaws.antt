@@ -1,4 +1,4 @@
--- The votes that lanes give are those of their places. Assumes nothing.
+-- The votes in lanes are those of the places that the lanes hold. Assumes nothing.
 use Prim.Native.Nat.{ℕ, zero, suc, _+_, _*_, _-_, _%_, _^_, _≤_, _<_}
 use mathlib.Core.Path.{_≡_, refl, ap, ap₂, sym, _∙_}
 use mathlib.Core.Bool.{cond}
@@ -18,16 +18,16 @@ use Rattle.swar_theory.specs.Digit.{digit}
 use Rattle.swar_lanes.specs.Lane.{offset, laneOf, Lanes, Held}
 use Rattle.swar_lanes.specs.Ballot.{place, VotesWithin}
 use Rattle.swar_lanes.proofs.LaneLaws.{offset-lt, place-lane}
-use Rattle.swar_lanes.proofs.SpotLaws.{near-sum, offset-sum}
+use Rattle.swar_lanes.proofs.SpotLaws.{within-sum, offset-sum}
 use Rattle.decode_short_lead.specs.Lead.{lanesEqual}
 use Rattle.decode_short_margin.specs.Margins.{placeOf, placesOf, bothVotes}
 
--- THE PLACES of the lanes
+-- THE PLACE of lane t is the value of the lane
 pub at-lane : (x t : ℕ) → t < 16 → placeOf x (offset t) ≡ digit 4 x t
 unfolding placeOf
 at-lane x t h = ap (digit 4 x) (place-lane t h)
 
--- NO ERRORS, no wrong votes
+-- NO ERRORS: every place of 0 is 0, so no vote is wrong
 no-place : (i : ℕ) → placeOf 0 i ≡ 0
 unfolding placeOf digit
 no-place i = ap (λ z. z % 2 ^ 4) (zero-div (2 ^ (4 * laneOf i)))
@@ -47,7 +47,7 @@ pub both-none : (q k f : ℕ) → 0 < q → (v : ℕ) → 1 ≤ v → bothVotes 
 unfolding bothVotes
 both-none q k f hq v hv = omega (arith, no-votes q k v hq hv)
 
--- THE PLACES OF TWO NUMBERS
+-- THE PLACES OF TWO NUMBERS: the first sixteen are in f, the second in h
 pub first-places : (f h i : ℕ) → i < 16 → placesOf f h i ≡ placeOf f i
 unfolding placesOf
 first-places f h i l = ap (λ z. cond z (placeOf f i) (placeOf h (i - 16))) (lt-ltb i 16 l)
@@ -56,7 +56,7 @@ pub second-places : (f h i j : ℕ) → i ≡ 16 + j → placesOf f h i ≡ plac
 unfolding placesOf
 second-places f h i j e = ap (λ z. cond z (placeOf f i) (placeOf h (i - 16))) (le-ltb i 16 (omega (arith, e))) ∙ ap (placeOf h) (omega (arith, e))
 
--- the coefficients 0 to 3: each number casts its own votes
+-- for the coefficients 0 to 3 the votes of 32 places are those of each number
 pub votes-both : (q k f h : ℕ) → k < 4 → (v : ℕ) → votes q 5 k (placesOf f h) v ≡ bothVotes q k f h v
 unfolding votes count bothVotes ifClear vote
 votes-both q k f h hk v =
@@ -73,7 +73,7 @@ votes-both q k f h hk v =
     high i l zero = ap₂ (λ x y. same (subMod q x y) v) (second-places f h (16 + i + 2 ^ k) (i + 2 ^ k) (omega arith)) (second-places f h (16 + i) i refl)
     high i l (suc b) = refl
 
--- coefficient 4: one number's places are the partners of the other's
+-- for coefficient 4 the partner of each place in f stands in the same lane of h
 pub votes-last : (q f h v : ℕ) → votes q 5 4 (placesOf f h) v ≡ sum 16 (λ t. same (subMod q (digit 4 h t) (digit 4 f t)) v)
 unfolding votes count vote ifClear
 votes-last q f h v =
@@ -91,9 +91,9 @@ votes-last q f h v =
     low : (i : ℕ) → i < 16 → same (vote q 4 (placesOf f h) i) v ≡ same (subMod q (placeOf h i) (placeOf f i)) v
     low i l = ap₂ (λ x y. same (subMod q x y) v) (second-places f h (i + 16) i (omega arith)) (first-places f h i l)
 
--- THE VOTES IN LANES, for the coefficients 0 to 3
-module _ (q k f h x : ℕ) (hk : k < 4) (near : VotesWithin q k f h x) where
-  -- the word whose places they are
+-- THE VOTES IN LANES for the coefficients 0 to 3 are those of the 32 places
+module _ (q k f h x : ℕ) (hk : k < 4) (within : VotesWithin q k f h x) where
+  -- the word of the 32 places
   abbrev word : List ℕ
   word = tabulate 32 (placesOf f h)
 
@@ -110,13 +110,13 @@ module _ (q k f h x : ℕ) (hk : k < 4) (near : VotesWithin q k f h x) where
   within-votes : (v : ℕ) → lanesEqual x v ≡ votes q 5 k (at word) v
   unfolding lanesEqual votes count
   within-votes v =
-      sum-ext 16 _ _ (λ t l. ap (λ y. same y v) (near word 0 first-held second-held t l ∙ ap (vote q k (at word)) (zero-add (place k t))))
-      ∙ near-sum k hk (λ i. same (vote q k (at word) i) v)
+      sum-ext 16 _ _ (λ t l. ap (λ y. same y v) (within word 0 first-held second-held t l ∙ ap (vote q k (at word)) (zero-add (place k t))))
+      ∙ within-sum k hk (λ i. same (vote q k (at word) i) v)
 
   pub lanes-both : (v : ℕ) → lanesEqual x v ≡ bothVotes q k f h v
   lanes-both v = within-votes v ∙ votes-ext q 5 k (at word) (placesOf f h) (omega arith) (λ i l. place-at i l) v ∙ votes-both q k f h hk v
 
--- and for coefficient 4
+-- the votes in lanes for coefficient 4 are those of the 32 places
 pub last-lanes : (q f h d : ℕ) → Lanes d (λ t. subMod q (digit 4 h t) (digit 4 f t)) → (v : ℕ) → lanesEqual d v ≡ votes q 5 4 (placesOf f h) v
 unfolding lanesEqual
 last-lanes q f h d l v = sum-ext 16 _ _ (λ t i. ap (λ x. same x v) (l t i)) ∙ sym (votes-last q f h v)

@@ -1,5 +1,5 @@
--- The places of a word in lanes, and the votes that they give.
-use Prim.Native.Nat.{ℕ, _+_, _*_, _-_, _/_, _%_, _≤_, _<_}
+-- The places of a word in lanes, and their votes.
+use Prim.Native.Nat.{ℕ, _+_, _*_, _-_, _≤_, _<_}
 use mathlib.Core.Path.{_≡_}
 use mathlib.Core.Bool.{true, cond}
 use lib.Dec.{ltb}
@@ -17,11 +17,11 @@ placeOf f i = digit 4 f (laneOf i)
 unfoldable pub placesOf : ℕ → ℕ → ℕ → ℕ
 placesOf f h i = cond (ltb i 16) (placeOf f i) (placeOf h (i - 16))
 
--- the votes of both numbers for coefficient k, below 4
+-- how many of the votes for coefficient k, below 4, of the places in both numbers are v
 unfoldable pub bothVotes : ℕ → ℕ → ℕ → ℕ → ℕ → ℕ
 bothVotes q k f h v = votes q 4 k (placeOf f) v + votes q 4 k (placeOf h) v
 
--- the lead of 0 among `half` votes, by those that g gives to the values from 1 to q - 1
+-- the lead of 0 among `half` votes, where g v of them are for each value v from 1 to q - 1
 unfoldable pub leadBy : ℕ → ℕ → (ℕ → ℕ) → ℕ
 leadBy q half g = half - sumFrom1 (q - 1) g - maxFrom1 (q - 1) g
 

@@ -1,30 +1,27 @@
--- Short words in lanes, and their errors place by place. Assumes nothing.
-use Prim.Native.Nat.{ℕ, zero, suc, _+_, _*_, _-_, _/_, _%_, _^_, _≤_, _<_}
-use mathlib.Core.Path.{_≡_, refl, ap, ap₂, sym, _∙_}
+-- Words of up to 16 places in lanes, and their errors place by place. Assumes nothing.
+use Prim.Native.Nat.{ℕ, zero, suc, _+_, _*_, _/_, _%_, _≤_, _<_}
+use mathlib.Core.Path.{_≡_, refl, ap, sym, _∙_}
 use mathlib.Core.List.{List, [], _∷_}
 use native.Mathlib.Decide.{decLt}
 use native.Mathlib.Omega.{arith}
-use native.Mathlib.Nat.{mod-add-mod, mod-lt, mod-mod, div-eq-of-lt, add-comm, add-zero, zero-add, zero-mul, mul-one, mul-zero, mod-eq-of-lt, lt-of-lt-of-le}
+use native.Mathlib.Nat.{mod-add-mod, div-eq-of-lt, add-comm, zero-add, mod-eq-of-lt}
 use lib.ListN.{length}
-use lib.Pow.{pow-mono}
 use Rattle.code_theory.specs.Sum.{sum, at}
-use Rattle.code_theory.specs.Index.{bit}
 use Rattle.code_theory.specs.Modular.{subMod, same, differ}
-use Rattle.code_theory.specs.Code.{linear, symbolAt}
 use Rattle.code_theory.proofs.ModularLaws.{subMod-lt, subMod-is, add-subMod, subMod-mod, same-eq, same-ne, differ-eq, differ-ne}
 use Rattle.swar_theory.specs.Digit.{digit}
-use Rattle.swar_theory.proofs.DigitLaws.{digit-even, digit-odd}
+use Rattle.swar_theory.proofs.DigitLaws.{digit-past, digit-even, digit-odd}
 use Rattle.swar_bytes.specs.Chunk.{Holds, from}
 use Rattle.swar_lanes.specs.Lane.{offset, Lanes, Low, Held}
-use Rattle.decode_short_errors.specs.Places.{plain, zeroPlaces}
+use Rattle.decode_short_errors.specs.Places.{zeroPlaces}
 
--- past its end a list has nothing
+-- past its end a list has 0
 pub past : (w : List ℕ) (i : ℕ) → length w ≤ i → at w i ≡ 0
 past [] i h = refl
 past (x ∷ w) zero h = absurd (omega arith)
 past (x ∷ w) (suc i) h = past w i (omega arith)
 
--- symbols that fit a lane, and nothing past the end
+-- where the symbols of a word fit a lane, so does 0 past its end
 all-low : (w : List ℕ) → Low w → (l : ℕ) → at w l < 16
 all-low w low l = go (decLt l (length w))
   where
@@ -32,7 +29,7 @@ all-low w low l = go (decLt l (length w))
     go (yes k) = low l k
     go (no k) = omega (arith, past w l (omega arith))
 
--- EIGHT PLACES or fewer in the bytes of a number stand in the even lanes
+-- EIGHT PLACES or fewer that stand in the bytes of a number stand in its even lanes
 pub held-bytes : (w : List ℕ) (x : ℕ) → length w ≤ 8 → ((l : ℕ) → l < 8 → digit 8 x l ≡ at w l) → ((l : ℕ) → at w l < 16) → Held w 0 x
 unfolding offset
 held-bytes w x n h low t k = go (t / 2) (t % 2) refl refl
@@ -50,12 +47,7 @@ held-bytes w x n h low t k = go (t / 2) (t % 2) refl refl
         ap (digit 4 x) g ∙ digit-odd 4 x l ∙ ap (λ z. z / 16) (h l (omega arith)) ∙ value ∙ sym (past w (8 + l) (omega arith)) ∙ ap (at w) place
     go l (suc (suc p)) e f = absurd (omega arith)
 
--- bytes past the end of a small number are 0
-pub byte-past : (n x l : ℕ) → x < 2 ^ (8 * n) → n ≤ l → digit 8 x l ≡ 0
-unfolding digit
-byte-past n x l h k = ap (λ z. z % 2 ^ 8) (div-eq-of-lt (lt-of-lt-of-le h (pow-mono {i = 8 * n} {j = 8 * l} (omega arith))))
-
--- ERRORS: taking out the code and then the constant is taking out the message's word
+-- ERRORS: minus the code and then minus the constant is minus the word of the message
 pub left : (q y a l : ℕ) → 0 < q → subMod q (subMod q y (l % q)) a ≡ subMod q y ((a + l) % q)
 left q y a l h = sym (subMod-is q y ((a + l) % q) (subMod q (subMod q y (l % q)) a) h (subMod-lt q _ a h) back)
   where
@@ -78,7 +70,7 @@ right-or-wrong : (x : ℕ) → same x 0 + differ 0 x ≡ 1
 right-or-wrong zero = omega (arith, same-eq 0 0 refl, differ-eq 0 0 refl)
 right-or-wrong (suc x) = omega (arith, same-ne (suc x) 0 (λ e. absurd (omega (arith, e))), differ-ne 0 (suc x) (λ e. absurd (omega (arith, e))))
 
--- THE PLACES WITHOUT AN ERROR, by the marks of their lanes
+-- THE PLACES WITHOUT AN ERROR are counted by the marks of their lanes
 module _ (e : ℕ) (f : ℕ → ℕ) (l : Lanes e (λ t. f (offset t))) where
   at-lane : (t i : ℕ) → t < 16 → offset t ≡ i → same (digit 4 e t) 0 ≡ same (f i) 0
   at-lane t i h k = ap (λ z. same z 0) (l t h ∙ ap f k)
@@ -144,7 +136,7 @@ module _ (e : ℕ) (f : ℕ → ℕ) (l : Lanes e (λ t. f (offset t))) where
         right-or-wrong (f 15),
       )
 
--- FOUR and EIGHT places
+-- A WORD of 8 places, and one of 4, stands in lanes
 pub held-eight : (w : List ℕ) (x : ℕ) → length w ≡ 8 → Low w → ((l : ℕ) → l < 8 → digit 8 x l ≡ at w (0 + l)) → Held w 0 x
 held-eight w x e low h = held-bytes w x (omega (arith, e)) (λ l k. h l k ∙ ap (at w) (zero-add l)) (all-low w low)
 
@@ -153,4 +145,4 @@ held-four w x e low h = held-bytes w x (omega (arith, e)) (λ l k. go l (decLt l
   where
     go : (l : ℕ) → Dec (l < 4) → digit 8 x l ≡ at w l
     go l (yes k) = h .each l k ∙ ap (at w) (zero-add l)
-    go l (no k) = byte-past 4 x l (h .fits) (omega arith) ∙ sym (past w l (omega (arith, e)))
+    go l (no k) = digit-past 8 4 x l (h .fits) (omega arith) ∙ sym (past w l (omega (arith, e)))

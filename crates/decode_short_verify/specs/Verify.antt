@@ -1,4 +1,4 @@
--- The one message that can be near a word, and the word's errors from it.
+-- The candidate of a word, and the errors of the word.
 use Prim.Native.Nat.{ℕ, _^_, _<_}
 use mathlib.Core.Path.{_≡_}
 use mathlib.Core.List.{List}
@@ -11,7 +11,7 @@ use Rattle.swar_theory.specs.Digit.{digit}
 use Rattle.swar_lanes.specs.Lane.{offset, Lanes}
 use Rattle.decode_short_candidate.specs.Candidate.{message, OnlyCandidate}
 
--- the lanes of r are what is left of those of x when the word of four coefficients and the constant a is taken out
+-- the lanes of r are those of x minus the word of the constant a and four coefficients, modulo q
 abbrev pub Left : ℕ → ℕ → ℕ → ℕ → ℕ → ℕ → ℕ → ℕ → Type 0
 Left q x a c0 c1 c2 c3 r = Lanes r (λ t. subMod q (digit 4 x t) (symbolAt q 4 (at (message a c0 c1 c2 c3 0)) (offset t)))
 

@@ -1,4 +1,4 @@
--- What Write's questions leave, by the first with a no. Assumes nothing.
+-- The answer of Write and the word that it leaves, by the first question answered no. Assumes nothing.
 use Prim.Native.Nat.{ℕ, suc, _^_, _≤_}
 use mathlib.Core.Path.{_≡_, refl, sym, _∙_}
 use mathlib.Core.Bool.{Bool, true, false}
@@ -11,7 +11,7 @@ use Rattle.code_theory.proofs.QuestionLaws.{ask-yes, ask-on, ask-no, variables-
 use Rattle.encode_codeword.specs.Coded.{Fits}
 use Rattle.encode_by_length.specs.Encoder.{encodeRefusal, encodeWord}
 
--- the number of Write's first question with a no, and that the word is left as it is
+-- the answer is the number of the first question answered no, and the word is left as it is
 module _ (q m : ℕ) (s w : List ℕ) where
   left-as-is : (n : ℕ) → encodeRefusal q m s w ≡ suc n → (suc n ≡ encodeRefusal q m s w) × (w ≡ encodeWord q m s w)
   unfolding encodeWord
@@ -49,11 +49,11 @@ module _ (q m : ℕ) (s w : List ℕ) where
           unfolding encodeRefusal
           all-yes e = ask-on _ _ _ a ∙ ask-on _ _ _ b ∙ ask-on _ _ _ c ∙ ask-on _ _ _ d ∙ ask-on _ _ _ e
 
--- the same for an m that is written out
+-- an answer for a literal j is one for m where j is m
 pub with-variables : (q m j r : ℕ) (s w v : List ℕ) → j ≡ m → (r ≡ encodeRefusal q j s w) × (v ≡ encodeWord q j s w) → (r ≡ encodeRefusal q m s w) × (v ≡ encodeWord q m s w)
 with-variables q m j r s w v e d = rw e at d
 
--- where all have a yes, the word of the message fits its slice and fills it
+-- where all questions are answered yes, the word of the message fits its slice and fills it
 pub all-fits : (q m : ℕ) (s w : List ℕ) → encodeRefusal q m s w ≡ 0 → Fits q m s w × (length w ≡ 2 ^ m)
 unfolding encodeRefusal
 all-fits q m s w e =
@@ -66,7 +66,7 @@ all-fits q m s w e =
     let size = message-size m s c in
     (record { alphabet = a; low = low; variables = high; size = omega (arith, size); below = symbols q (suc m) s size d .below; room = omega (arith, room) }, room)
 
--- the word that Write leaves where all have a yes
+-- where all questions are answered yes, Write leaves the word of the message
 pub word-written : (q m : ℕ) (s w v : List ℕ) → encodeRefusal q m s w ≡ 0 → v ≡ codeword q m s → (0 ≡ encodeRefusal q m s w) × (v ≡ encodeWord q m s w)
 unfolding encodeWord
 word-written q m s w v z e = (sym z, e ∙ sym (after-yes _ _ _ z))

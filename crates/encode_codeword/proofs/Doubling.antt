@@ -1,4 +1,4 @@
--- A doubling adds one place after the other, and a word grows by one doubling after the other. Assumes nothing.
+-- The places that a doubling fills, and the words that it makes. Assumes nothing.
 use Prim.Native.Nat.{ℕ, suc, _+_, _*_, _-_, _%_, _^_, _≤_, _<_}
 use mathlib.Core.Path.{_≡_, refl, ap, sym, _∙_}
 use mathlib.Core.Bool.{true}
@@ -24,7 +24,7 @@ use Rattle.encode_codeword.specs.Coded.{Fits, Coded, Written, Small, Dou
 pub doubled-none : (q len a : ℕ) (w : List ℕ) → Doubled q len a w w 0
 doubled-none q len a w = record { size = refl; low = λ j l. refl; high = below-none _; rest = λ j l. refl }
 
--- the next place
+-- the place at i + len is filled
 pub doubled-next : (q len a : ℕ) (w v : List ℕ) (i x : ℕ) → i < len → 2 * len ≤ length w → Doubled q len a w v i → x ≡ (at v i + a) % q
     → Doubled q len a w (set v (i + len) x) (i + 1)
 doubled-next q len a w v i x l room d e = record {
@@ -36,10 +36,9 @@ doubled-next q len a w v i x l room d e = record {
   rest = λ j h. getD-set-other v (i + len) j x 0 (λ z. absurd (omega (arith, z))) ∙ d .rest j (omega arith);
 }
 
--- eight places more, in the digits of x
+-- the eight places from p = i + len on are filled with the digits of x
 pub doubled-eight : (q len a : ℕ) (w v u : List ℕ) (i n p x : ℕ) → i + 8 ≤ len → n ≡ i + 8 → p ≡ i + len → Doubled q len a w v i
-    → ((l : ℕ) → l < 8 → digit 8 x l ≡ (at v (i + l) + a) % q)
-    → Put 8 x p v u → Doubled q len a w u n
+    → ((l : ℕ) → l < 8 → digit 8 x l ≡ (at v (i + l) + a) % q) → Put 8 x p v u → Doubled q len a w u n
 doubled-eight q len a w v u i n p x room f g d e t = record {
   size = t .size ∙ d .size;
   low = λ j h. t .below j (omega (arith, g)) ∙ d .low j h;
@@ -69,7 +68,7 @@ module _ (q k : ℕ) (s w v : List ℕ) (d : Coded q k s w) (t : Doubled q (2 ^ 
       t .high i l ∙ ap (λ x. (x + at s (suc k)) % q) (d .each i l) ∙ mod-add-mod (at s 0 + linear k (λ j. at s (suc j)) i) q (at s (suc k))
       ∙ ap (λ x. x % q) (add-assoc (at s 0) _ _ ∙ ap (λ x. at s 0 + x) (sym (linear-high k (λ j. at s (suc j)) i l)))
 
-  -- the next coefficient
+  -- a doubled word of k coefficients is the word of k + 1
   pub coded-next : Coded q (suc k) s v
   coded-next = record { each = λ i l. half i l (decLt i (2 ^ k)) }
     where
@@ -79,7 +78,7 @@ module _ (q k : ℕ) (s w v : List ℕ) (d : Coded q k s w) (t : Doubled q (2 ^ 
           let e : i ≡ (i - 2 ^ k) + 2 ^ k = omega arith in
           ap (at v) e ∙ high-half (i - 2 ^ k) (omega (arith, pow-succ' 2 k)) ∙ ap (symbolAt q (suc k) (at s)) (sym e)
 
--- the same as the loop counts
+-- the same, with k + 1 for suc k, and with len and a as the code has them
 pub coded-loop : (q k len a : ℕ) (s w v : List ℕ) → len ≡ 2 ^ k → a ≡ at s (k + 1) → Coded q k s w → Doubled q len a w v len → Coded q (k + 1) s v
 coded-loop q k len a s w v e f d t = rw add-one (coded-next q k s w v d (turn e (f ∙ ap (at s) (add-one k)) t))
   where
@@ -89,7 +88,7 @@ coded-loop q k len a s w v e f d t = rw add-one (coded-next q k s w v d (turn e 
 pub coded-below : (q k : ℕ) (s w : List ℕ) → 0 < q → Coded q k s w → (i : ℕ) → i < 2 ^ k → at w i < q
 coded-below q k s w h d i l = rw (d .each i l) (symbolAt-lt q k (at s) i h)
 
--- what the doubling of len places asks for and gives, where they are the word of k coefficients
+-- what the doubling of len places requires and ensures, where they are the word of k coefficients
 module _ (q k j len : ℕ) (s w : List ℕ) (e : k ≡ j) (f : len ≡ 2 ^ j) (d : Coded q k s w) where
   twice : 2 ^ (k + 1) ≡ 2 * len
   twice = ap (λ x. 2 ^ x) (add-one k) ∙ pow-succ' 2 k ∙ ap (λ x. 2 * 2 ^ x) e ∙ omega (arith, f)
@@ -111,7 +110,7 @@ module _ (q k j len : ℕ) (s w : List ℕ) (e : k ≡ j) (f : len ≡ 2 ^ j) (d
     rest = λ i h. t .rest i (omega (arith, twice));
   }
 
--- the same for n chunks of eight places
+-- what the doubling of n times eight places requires
 pub chunks-ask : (q a n : ℕ) (w : List ℕ) → (isAlphabet q ≡ true) × (a < q) × (2 * (8 * n) ≤ length w) × (8 * n ≤ 128) × ((i : ℕ) → i < 8 * n → at w i < q)
     → (isAlphabet q ≡ true) × (a < q) × (16 * n ≤ length w) × (n ≤ 16) × ((i : ℕ) → i < 8 * n → at w i < q)
 chunks-ask q a n w (b, c, d, e, f) = (b, c, omega arith, omega arith, f)
@@ -131,7 +130,7 @@ pub fits-small : (q m : ℕ) (s w : List ℕ) → Fits q m s w → Small (suc m)
 fits-small q m s w h =
     record { size = h .size; below = λ k l. omega (arith, h .below k l, alphabet-bounds q (alphabet q (h .alphabet))) }
 
--- a word and the next longer one written over it
+-- the word of k coefficients, and then that of k + 1 over it, is the word of k + 1
 pub written-more : (q k : ℕ) (s w v u : List ℕ) → Written q k s w v → Written q (k + 1) s v u → Written q (k + 1) s w u
 written-more q k s w v u a b = record {
   size = b .size ∙ a .size;
@@ -142,7 +141,7 @@ written-more q k s w v u a b = record {
 pub written-all : (q m k : ℕ) (s w v : List ℕ) → k ≡ m → Written q k s w v → Written q m s w v
 written-all q m k s w v e d = rw e at d
 
--- the places below i hold those of the word of s, and those from 2 ^ m on are kept
+-- the places of v below i are those of the word of s, and those from 2 ^ m on are as in w
 pub record Begun (q m : ℕ) (s w v : List ℕ) (i : ℕ) : Type 0 where
   pub size : length v ≡ length w
   pub each : (j : ℕ) → j < i → at v j ≡ symbolAt q m (at s) j
@@ -164,7 +163,7 @@ pub begun-all : (q m : ℕ) (s w v : List ℕ) (i : ℕ) → 2 ^ m ≤ i → Beg
 begun-all q m s w v i h b =
     record { size = b .size; coded = record { each = λ j l. b .each j (omega (arith, h)) }; rest = b .rest }
 
--- the place at index i of the word of six coefficients, as code works it out
+-- the symbol at index i of the word of six coefficients, as the code computes it
 pub six-symbol : (q i r : ℕ) (s : List ℕ) → r ≡ at s 0 + at s 1 * bit 0 i + at s 2 * bit 1 i + at s 3 * bit 2 i + at s 4 * bit 3 i + at s 5 * bit 4 i + at s 6 * bit 5 i
     → r % q ≡ symbolAt q 6 (at s) i
 unfolding symbolAt linear sum

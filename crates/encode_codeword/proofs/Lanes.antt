@@ -1,4 +1,4 @@
--- Places of a word in the digits of one number. Assumes nothing.
+-- The first places of a word in the bytes of one number. Assumes nothing.
 use Prim.Native.Nat.{ℕ, suc, _+_, _*_, _-_, _%_, _^_, _<_}
 use mathlib.Core.Path.{_≡_, refl, ap, sym, _∙_}
 use mathlib.Core.Bool.{true}
@@ -19,15 +19,15 @@ use Rattle.swar_bytes.specs.Chunk.{Holds, Put}
 use Rattle.swar_bytes.proofs.Parts.{hold-number, hold-plus, hold-ext, hold-shifted, same-four}
 use Rattle.encode_codeword.specs.Coded.{Small, Written, unreduced}
 
--- a mask in each digit is the remainder in each digit
+-- an `and` with q - 1 in each digit leaves each digit modulo q
 pub reduced-each : (q x y : ℕ) → isAlphabet q ≡ true → Holds 8 y (λ l. q - 1) → (l : ℕ) → l < 8 → digit 8 (bitAnd x y) l ≡ digit 8 x l % q
 reduced-each q x y a h l k = digit-and 8 x y l ∙ ap (bitAnd (digit 8 x l)) (h .each l k) ∙ mask-mod q _ (alphabet q a)
 
--- what holds at each of four places
+-- a statement that holds at 0, 1, 2 and 3 holds below 4
 all-four : (P : ℕ → Type 0) → P 0 → P 1 → P 2 → P 3 → (l : ℕ) → l < 4 → P l
 all-four P a b c d = below-more P 3 (below-more P 2 (below-more P 1 (below-more P 0 (below-none _) a) b) c) d
 
--- the first four places, by the three symbols that they depend on
+-- the first four places depend only on the first three symbols
 module _ (s : ℕ → ℕ) (h : (k : ℕ) → k < 3 → s k < 8) where
   four-bound : (l : ℕ) → l < 4 → unreduced 2 s l < 32
   unfolding unreduced linear sum bit
@@ -38,17 +38,17 @@ module _ (s : ℕ → ℕ) (h : (k : ℕ) → k < 3 → s k < 8) where
   unfolding number unreduced linear sum bit
   four-holds = hold-number 4 _ (unreduced 2 s) (omega arith) (λ l k. omega (arith, four-bound l k))
 
--- the same as code reads the symbols
+-- the first four places as `first_four` computes them from the symbols that it read
 pub four-code : (s : List ℕ) (x y z : ℕ) → Small 3 s → x ≡ at s 0 → y ≡ at s 1 → z ≡ at s 2 → Holds 4 (x * 16843009 + y * 16777472 + z * 16842752) (unreduced 2 (at s))
 four-code s x y z h e f g = rw (e, f, g) (four-holds (at s) (h .below))
 
--- each digit plus a
+-- where x has symbols in its digits, and y has a in each, x + y has each symbol plus a
 pub plus-holds : (q a x y : ℕ) → x < 18446744073709551616 → isAlphabet q ≡ true → a < q → ((l : ℕ) → l < 8 → digit 8 x l < q) → Holds 8 y (λ l. a)
     → Holds 8 (x + y) (λ l. digit 8 x l + a)
 plus-holds q a x y h e b each s =
     hold-plus 8 x y (digit 8 x) (λ l. a) (record { fits = h; each = λ l k. refl }) s (λ l k. omega (arith, b, each l k, alphabet-bounds q (alphabet q e)))
 
--- the first eight places: the four, and the four plus the next coefficient
+-- the first eight places are the first four, and the same four plus the next coefficient
 module _ (s : ℕ → ℕ) (p : ℕ) (h : (k : ℕ) → k < 4 → s k < 8) (four : Holds 4 p (unreduced 2 s)) where
   upper-four : Holds 4 (p + s 3 * 16843009) (λ l. unreduced 2 s l + s 3)
   upper-four =
@@ -70,7 +70,7 @@ pub eight-code : (s : List ℕ) (p x : ℕ) → Small 4 s → Holds 4 p (unreduc
     → Holds 8 (p + (p + x * 16843009) * 4294967296 % 18446744073709551616) (unreduced 3 (at s))
 eight-code s p x h four e = rw e (eight-holds (at s) p (h .below) four)
 
--- the places of a word, written as digits that are reduced
+-- digits that are written modulo q are the word where, unreduced, they are its places
 pub written-put : (q m n r x : ℕ) (s w v : List ℕ) → 2 ^ m ≡ n → ((l : ℕ) → l < n → digit 8 r l ≡ digit 8 x l % q) → Holds n x (unreduced m (at s))
     → Put n r 0 w v → Written q m s w v
 unfolding symbolAt unreduced

@@ -1,4 +1,4 @@
--- What the writer of a codeword asks for and leaves.
+-- What `write` requires, and what it ensures.
 use Prim.Native.Nat.{ℕ, suc, _^_, _+_, _≤_, _<_, _%_}
 use mathlib.Core.Path.{_≡_}
 use mathlib.Core.List.{List}
@@ -8,7 +8,7 @@ use Rattle.code_theory.specs.Code.{linear, symbolAt}
 use mathlib.Core.Bool.{true}
 use Rattle.code_theory.specs.Question.{isAlphabet}
 
--- a message whose word fits the buffer
+-- s is a message of m coefficients below q, and its word fits the buffer w
 pub record Fits (q m : ℕ) (s w : List ℕ) : Type 0 where
   pub alphabet : isAlphabet q ≡ true
   pub low : 2 ≤ m
@@ -27,7 +27,7 @@ pub record Written (q m : ℕ) (s w v : List ℕ) : Type 0 where
   pub coded : Coded q m s v
   pub rest : (i : ℕ) → 2 ^ m ≤ i → at v i ≡ at w i
 
--- a list that starts with n symbols of some alphabet
+-- s has n symbols or more, and its first n are below 8, the largest alphabet
 pub record Small (n : ℕ) (s : List ℕ) : Type 0 where
   pub size : n ≤ length s
   pub below : (k : ℕ) → k < n → at s k < 8

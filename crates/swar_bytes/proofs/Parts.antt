@@ -1,4 +1,4 @@
--- A chunk from its parts. Assumes nothing.
+-- The bytes of a number are read and written in parts. Assumes nothing.
 use Prim.Native.Nat.{ℕ, suc, _+_, _*_, _-_, _/_, _%_, _^_, _≤_, _<_}
 use mathlib.Core.Path.{_≡_, ap, ap₂, sym, _∙_, subst}
 use mathlib.Core.List.{List}
@@ -14,7 +14,7 @@ use Rattle.swar_theory.specs.Digit.{digit, number}
 use Rattle.swar_theory.proofs.DigitLaws.{digit-under, digit-down, number-lt, number-digit, digit-add, add-lt}
 use Rattle.swar_bytes.specs.Chunk.{Holds, Put}
 
--- one symbol is a number of one digit
+-- a symbol below 256 is a number of one digit
 pub hold-one : (x : ℕ) (f : ℕ → ℕ) → x ≡ f 0 → x < 256 → Holds 1 x f
 unfolding digit
 hold-one x f e h = record { fits = h; each = λ l k. first l (omega arith) }
@@ -41,14 +41,14 @@ module _ (n p x y : ℕ) (f : ℕ → ℕ) (a : Holds n x f) (b : Holds p y (λ 
   hold-join : Holds (n + p) (x + y * 2 ^ (8 * n)) f
   hold-join = record { fits = join-fits; each = λ l h. join-each l h (decLt l n) }
 
-  -- two parts side by side, the second put up by a shift
+  -- p digits, shifted above n digits and added, make n + p digits
   pub hold-shifted : n + p ≤ 8 → Holds (n + p) (x + y * 2 ^ (8 * n) % 18446744073709551616) f
   hold-shifted h = subst (λ z. Holds (n + p) (x + z) f) (sym (mod-eq-of-lt below)) hold-join
     where
       below : y * 2 ^ (8 * n) < 18446744073709551616
       below = omega (arith, join-fits, pow-mono {i = 8 * (n + p)} {j = 64} (omega arith))
 
--- no symbol, and one more
+-- 0 holds no symbol; n symbols and the next one above them are n + 1 symbols
 pub hold-none : (f : ℕ → ℕ) → Holds 0 0 f
 hold-none f = record { fits = omega arith; each = below-none _ }
 
@@ -58,14 +58,14 @@ hold-more n x y f h a e b = hold-shifted n 1 x y f a (hold-one y (λ l. f (n + l
 pub sum-fits : (n x y : ℕ) (f : ℕ → ℕ) → n < 8 → Holds n x f → y ≡ f n → y < 256 → x + y * 2 ^ (8 * n) % 18446744073709551616 < 18446744073709551616
 sum-fits n x y f h a e b = omega (arith, hold-more n x y f h a e b .fits, pow-mono {i = 8 * (n + 1)} {j = 64} (omega arith))
 
--- a number by its digits
+-- the number that is made of n digits holds them
 pub hold-number : (n x : ℕ) (f : ℕ → ℕ) → x ≡ number 8 n f → ((l : ℕ) → l < n → f l < 256) → Holds n x f
 hold-number n x f e h = record {
   fits = subst (λ z. z < 2 ^ (8 * n)) (sym e) (number-lt 8 n f h);
   each = λ l k. ap (λ z. digit 8 z l) e ∙ number-digit 8 n f h l k;
 }
 
--- the same number in each of four digits, and of eight
+-- a times a number whose digits are 1 holds a in each digit
 pub same-four : (a : ℕ) → a < 256 → Holds 4 (a * 16843009) (λ l. a)
 unfolding number sum
 same-four a h = hold-number 4 _ _ (omega arith) (λ l k. h)
@@ -74,7 +74,7 @@ pub same-eight : (a : ℕ) → a < 256 → Holds 8 (a * 72340172838076673) (λ l
 unfolding number sum
 same-eight a h = hold-number 8 _ _ (omega arith) (λ l k. h)
 
--- a sum where no digit grows too large
+-- a sum holds the sums of the digits where each of them is below 256
 pub hold-plus : (n x y : ℕ) (f g : ℕ → ℕ) → Holds n x f → Holds n y g → ((l : ℕ) → l < n → f l + g l < 256) → Holds n (x + y) (λ l. f l + g l)
 hold-plus n x y f g a b h = record {
   fits = add-lt 8 n x y (a .fits) (b .fits) fits;
@@ -87,7 +87,7 @@ hold-plus n x y f g a b h = record {
 pub hold-ext : (n x : ℕ) (f g : ℕ → ℕ) → ((l : ℕ) → l < n → f l ≡ g l) → Holds n x f → Holds n x g
 hold-ext n x f g e a = record { fits = a .fits; each = λ l k. a .each l k ∙ e l k }
 
--- the lowest digit written
+-- a remainder by 256, written to place i, is the lowest digit
 pub put-one : (x y i : ℕ) (w : List ℕ) → i < length w → y ≡ x % 256 → Put 1 x i w (set w i y)
 unfolding digit
 put-one x y i w h e = record {
@@ -102,7 +102,7 @@ put-one x y i w h e = record {
         let f : i + l ≡ i = omega arith in
         rw (f, z) (getD-set-same w i y 0 h ∙ e ∙ ap (λ a. a % 256) (sym (div-one x)))
 
--- two parts written one after the other
+-- n digits, and p more written after them, are n + p digits written
 pub put-join : (n p x i : ℕ) (w v u : List ℕ) → Put n x i w v → Put p (x / 2 ^ (8 * n)) (i + n) v u → Put (n + p) x i w u
 put-join n p x i w v u a b = record {
   size = b .size ∙ a .size;

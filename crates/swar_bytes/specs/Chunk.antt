@@ -1,4 +1,4 @@
--- Symbols in the digits of a number, eight bits each.
+-- Symbols in the bytes of a number: digits of eight bits.
 use Prim.Native.Nat.{ℕ, _+_, _*_, _^_, _≤_, _<_}
 use mathlib.Core.Path.{_≡_}
 use mathlib.Core.List.{List}
@@ -6,7 +6,7 @@ use lib.ListN.{length}
 use Rattle.code_theory.specs.Sum.{at}
 use Rattle.swar_theory.specs.Digit.{digit}
 
--- the digits of x are f 0 to f (n - 1), and no more
+-- x has n digits, which are f 0 to f (n - 1)
 pub record Holds (n x : ℕ) (f : ℕ → ℕ) : Type 0 where
   pub fits : x < 2 ^ (8 * n)
   pub each : (l : ℕ) → l < n → digit 8 x l ≡ f l

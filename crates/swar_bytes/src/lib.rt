@@ -1,5 +1,5 @@
-// Symbols in the bytes of one number: read from a slice, written to it, and a mask for their remainders. Each read and write is written out
-// byte by byte, with no loop, so that the compiler makes one load or one store of it.
+// Up to eight symbols in the bytes of one number: they are read from a slice, written to it, and reduced modulo q by a mask. Each read and
+// write is written out byte by byte, with no loop, so that the compiler makes one load or one store of it.
 ghost use mathlib.Core.Path.{_≡_};
 ghost use mathlib.Core.Bool.{true};
 ghost use Prim.Native.Nat.{ℕ, _+_, _-_, _<_, _≤_};
@@ -17,7 +17,7 @@ fn wide(s: &[u8], i: usize) -> u64
     s[i] as u64
 }
 
-// The n symbols from place i on and the next one.
+// Puts the next symbol above the n symbols from place i on, which x holds.
 fn more(s: &[u8], i: usize, n: usize, x: u64) -> u64
     requires { ⌜ (n < 8) × (i + n < length (now s)) × Holds n x (from (now s) i) ⌝ }
     ensures { λ r. ⌜ Holds (n + 1) r (from (now (s .entry)) i) ⌝ }
@@ -36,7 +36,7 @@ pub fn four(s: &[u8], i: usize) -> u64
     more(s, i, 3, x)
 }
 
-// The eight symbols from place i on.
+// The eight symbols from place i on, the first in the lowest byte.
 pub fn eight(s: &[u8], i: usize) -> u64
     requires { ⌜ i + 8 ≤ length (now s) ⌝ }
     ensures { λ r. ⌜ ((l : ℕ) → l < 8 → digit 8 r l ≡ at (now (s .entry)) (i + l)) ⌝ }
@@ -59,7 +59,7 @@ fn put_one(x: u64, i: usize, s: &mut [u8])
     s[i] = (x & 255) as u8;
 }
 
-// The two lowest bytes, from place i on.
+// Writes the two lowest bytes of x to the places from i on, the lowest first.
 fn put_two(x: u64, i: usize, s: &mut [u8])
     requires { ⌜ i + 2 ≤ length (now s) ⌝ }
     ensures { λ r. ⌜ Put 2 x i (now (s .entry)) (now (s .exit)) ⌝ }
@@ -68,7 +68,7 @@ fn put_two(x: u64, i: usize, s: &mut [u8])
     put_one(x >> 8, i + 1, s);
 }
 
-// The four lowest, from place i on.
+// Writes the four lowest bytes of x to the places from i on, the lowest first.
 pub fn put_four(x: u64, i: usize, s: &mut [u8])
     requires { ⌜ i + 4 ≤ length (now s) ⌝ }
     ensures { λ r. ⌜ Put 4 x i (now (s .entry)) (now (s .exit)) ⌝ }
@@ -77,7 +77,7 @@ pub fn put_four(x: u64, i: usize, s: &mut [u8])
     put_two(x >> 16, i + 2, s);
 }
 
-// All eight, from place i on.
+// Writes the eight bytes of x to the places from i on, the lowest first.
 pub fn put_eight(x: u64, i: usize, s: &mut [u8])
     requires { ⌜ i + 8 ≤ length (now s) ⌝ }
     ensures { λ r. ⌜ Put 8 x i (now (s .entry)) (now (s .exit)) ⌝ }
@@ -86,7 +86,7 @@ pub fn put_eight(x: u64, i: usize, s: &mut [u8])
     put_four(x >> 32, i + 4, s);
 }
 
-// The mask that takes the remainder by q, in each byte.
+// The mask q - 1 in each byte: an `and` with it leaves each byte modulo q.
 pub fn mask(q: u32) -> u64
     requires { ⌜ isAlphabet q ≡ true ⌝ }
     ensures { λ r. ⌜ Holds 8 r (λ l. q - 1) ⌝ }

@@ -1,12 +1,12 @@
--- Lanes of constants, blends and differences. Assumes nothing.
-use Prim.Native.Nat.{ℕ, zero, suc, _+_, _*_, _-_, _/_, _%_, _^_, _≤_, _<_}
+-- The lanes of constants, blends and differences. Assumes nothing.
+use Prim.Native.Nat.{ℕ, suc, _+_, _*_, _-_, _/_, _%_, _^_, _≤_, _<_}
 use mathlib.Core.Path.{_≡_, refl, ap, ap₂, sym, _∙_}
 use mathlib.Core.Logic.{inl, inr}
 use mathlib.Core.Bool.{true}
 use native.Mathlib.Omega.{arith}
 use native.Mathlib.Decide.{decLt}
 use native.Mathlib.Numerals.{add-one}
-use native.Mathlib.Nat.{not-suc-le-zero, le-of-suc-le-suc, mod-eq-of-lt, div-eq-of-lt, lt-of-lt-of-le}
+use native.Mathlib.Nat.{mod-eq-of-lt}
 use borrow.Author.Tests.{eqb-true}
 use lib.Dec.{eqb}
 use lib.Pow.{pow-mono}
@@ -15,16 +15,16 @@ use Rattle.code_theory.specs.Sum.{every}
 use Rattle.code_theory.specs.Index.{bit}
 use Rattle.code_theory.specs.Modular.{subMod}
 use Rattle.code_theory.specs.Question.{isAlphabet}
-use Rattle.code_theory.proofs.IndexLaws.{bit-lt}
+use Rattle.code_theory.proofs.IndexLaws.{bit-lt, by-bit}
 use Rattle.code_theory.proofs.ModularLaws.{subMod-code, subMod-lt}
 use Rattle.code_theory.proofs.QuestionLaws.{Alphabet, alphabet, alphabet-bounds, alphabet-positive, mask-mod}
 use Rattle.code_theory.proofs.EveryLaws.{every-at}
 use Rattle.swar_theory.specs.Digit.{digit}
-use Rattle.swar_theory.proofs.DigitLaws.{digit-lt, digit-and, digit-add, add-lt, digit-sub, sub-le, digit-times, digit-down}
+use Rattle.swar_theory.proofs.DigitLaws.{digit-lt, digit-past, digit-and, digit-add, add-lt, digit-sub, sub-le, digit-times, digit-down}
 use Rattle.swar_lanes.specs.Ballot.{laneBit, VotesIn}
 use Rattle.swar_lanes.specs.Lane.{offset, laneOf, Lanes, Below, ClearLanes, Blend}
 
--- the lanes of a number that is written out, by one computed test
+-- the lanes of a literal, by one computed test
 pub lanes-are : (x : ℕ) (f : ℕ → ℕ) → every 16 (λ t. eqb (digit 4 x t) (f t)) ≡ true → Lanes x f
 lanes-are x f e t h = eqb-true _ _ (every-at 16 (λ t. eqb (digit 4 x t) (f t)) e t h)
 
@@ -32,7 +32,7 @@ pub full-lanes : Lanes 0xffff_ffff_ffff_ffff (λ t. 15)
 unfolding every digit
 full-lanes = lanes-are 0xffff_ffff_ffff_ffff (λ t. 15) refl
 
-seven-lanes : Lanes 0x7777_7777_7777_7777 (λ t. 7)
+pub seven-lanes : Lanes 0x7777_7777_7777_7777 (λ t. 7)
 unfolding every digit
 seven-lanes = lanes-are 0x7777_7777_7777_7777 (λ t. 7) refl
 
@@ -47,7 +47,7 @@ one-lanes = lanes-are 0x1111_1111_1111_1111 (λ t. 1) refl
 pub clear-at : (l n x : ℕ) → l ≡ n → every 16 (λ t. eqb (digit 4 x t) (15 * (1 - bit n t))) ≡ true → ClearLanes l x
 clear-at l n x e f t h = lanes-are x (λ t. 15 * (1 - bit n t)) f t h ∙ ap (λ z. 15 * (1 - bit z t)) (sym e)
 
--- a lane under a mask
+-- an `and` with 15 keeps a lane, and one with 0 clears it
 keep : (d e : ℕ) → d < 16 → e ≡ 15 → bitAnd d e ≡ d
 keep d e h f = ap (bitAnd d) f ∙ and-mask d 4 ∙ mod-eq-of-lt h
 
@@ -83,12 +83,9 @@ module _ (l u v e : ℕ) (hu : u < 18446744073709551616) (hv : v < 1844674407370
     right-kept z = right-lane t h ∙ keep (digit 4 v t) _ (digit-lt 4 v t) (ap (λ x. 15 - 15 * (1 - x)) z)
 
     blend-fits : digit 4 (bitAnd u e) t + digit 4 (bitAnd v (18446744073709551615 - e)) t < 16
-    blend-fits = go (bit l t) refl (bit-lt l t)
-      where
-        go : (b : ℕ) → bit l t ≡ b → b < 2 → digit 4 (bitAnd u e) t + digit 4 (bitAnd v (18446744073709551615 - e)) t < 16
-        go zero z k = omega (arith, right-none z, digit-lt 4 (bitAnd u e) t)
-        go (suc zero) z k = omega (arith, left-none z, digit-lt 4 (bitAnd v (18446744073709551615 - e)) t)
-        go (suc (suc b)) z k = absurd (not-suc-le-zero (le-of-suc-le-suc (le-of-suc-le-suc k)))
+    blend-fits = by-bit (bit l t) (bit-lt l t)
+        (λ z. omega (arith, right-none z, digit-lt 4 (bitAnd u e) t))
+        (λ z. omega (arith, left-none z, digit-lt 4 (bitAnd v (18446744073709551615 - e)) t))
 
   left-lt : bitAnd u e < 2 ^ (4 * 16)
   left-lt = omega (arith, and-le-l u e)
@@ -99,7 +96,7 @@ module _ (l u v e : ℕ) (hu : u < 18446744073709551616) (hv : v < 1844674407370
   pub blend-lt : bitAnd u e + bitAnd v (18446744073709551615 - e) < 18446744073709551616
   blend-lt = add-lt 4 16 (bitAnd u e) (bitAnd v (18446744073709551615 - e)) left-lt right-lt blend-fits
 
-  -- THE BLEND of two numbers
+  -- THE BLEND of two numbers has the lanes of u under the mask e, and those of v elsewhere
   pub blend-is : Blend l u v (bitAnd u e + bitAnd v (18446744073709551615 - e))
   blend-is = record {
     low = λ t h z. added t h ∙ ap₂ (λ x y. x + y) (left-kept t h z) (right-none t h z) ∙ omega arith;
@@ -109,7 +106,7 @@ module _ (l u v e : ℕ) (hu : u < 18446744073709551616) (hv : v < 1844674407370
       added : (t : ℕ) → t < 16 → digit 4 (bitAnd u e + bitAnd v (18446744073709551615 - e)) t ≡ digit 4 (bitAnd u e) t + digit 4 (bitAnd v (18446744073709551615 - e)) t
       added t h = digit-add 4 16 (bitAnd u e) (bitAnd v (18446744073709551615 - e)) left-lt right-lt blend-fits t h
 
--- DIFFERENCES of lanes modulo q
+-- DIFFERENCES of lanes modulo q: q divides 8
 eight-more : (q a b : ℕ) → Alphabet q → b < q → (a + 8 - b) % q ≡ subMod q a b
 eight-more q a b h l = each h ∙ sym (subMod-code q a b l)
   where
@@ -118,17 +115,17 @@ eight-more q a b h l = each h ∙ sym (subMod-code q a b l)
     each (inr (inl e)) = let k : b < 4 = omega arith in rw e (omega arith)
     each (inr (inr e)) = rw e
 
--- a number that fits a lane, in every lane
+-- a times a number whose lanes are 1 has a in every lane
 pub spread-lanes : (a : ℕ) → a < 16 → Lanes (a * 0x1111_1111_1111_1111) (λ t. a)
 spread-lanes a l t h =
     digit-times 4 16 a 0x1111_1111_1111_1111 (omega arith) (λ i j. omega (arith, l, ap (λ z. a * z) (one-lanes i j))) t h
     ∙ ap (λ z. a * z) (one-lanes t h) ∙ omega arith
 
--- the mask that takes the remainder by q, in every lane
+-- the mask that leaves each lane modulo q has q - 1 in every lane
 pub mask-lane : (q : ℕ) → isAlphabet q ≡ true → Lanes ((q - 1) * 0x1111_1111_1111_1111) (λ t. q - 1)
 mask-lane q a = spread-lanes (q - 1) (omega (arith, alphabet-bounds q (alphabet q a)))
 
--- a number whose lanes are symbols is small
+-- a number whose lanes are below q has no lane above 7
 pub symbols-le : (q z : ℕ) → isAlphabet q ≡ true → z < 18446744073709551616 → Below q z → z ≤ 0x7777_7777_7777_7777
 symbols-le q z a hz b = sub-le 4 16 0x7777_7777_7777_7777 z (omega arith) hz (λ t h. omega (arith, seven-lanes t h, b t h, alphabet-bounds q (alphabet q a)))
 
@@ -164,38 +161,31 @@ module _ (q y x : ℕ) (a : isAlphabet q ≡ true) (hy : y < 1844674407370955161
 pub less-below : (q y x r : ℕ) → isAlphabet q ≡ true → Lanes r (λ t. subMod q (digit 4 y t) (digit 4 x t)) → Below q r
 less-below q y x r a d t h = omega (arith, d t h, subMod-lt q (digit 4 y t) (digit 4 x t) (omega (arith, alphabet-bounds q (alphabet q a))))
 
--- no lane stands past the sixteenth
-past : (x l : ℕ) → x < 2 ^ 64 → 16 ≤ l → digit 4 x l ≡ 0
-unfolding digit
-past x l h k = ap (λ z. z % 16) (div-eq-of-lt (lt-of-lt-of-le h (pow-mono {i = 64} {j = 4 * l} (omega (arith, k)))))
-
--- the lanes further on
+-- a number moved down by s lanes has its lanes below q where the number has
 down-below : (q s x : ℕ) → isAlphabet q ≡ true → x < 18446744073709551616 → Below q x → Below q (x / 2 ^ (4 * s))
 down-below q s x al hx b t h = go (decLt (s + t) 16)
   where
     go : Dec (s + t < 16) → digit 4 (x / 2 ^ (4 * s)) t < q
     go (yes l) = omega (arith, digit-down 4 x s t, b (s + t) l)
-    go (no l) = omega (arith, digit-down 4 x s t, past x (s + t) hx (omega arith), alphabet-positive q al)
+    go (no l) = omega (arith, digit-down 4 x s t, digit-past 4 16 x (s + t) hx (omega arith), alphabet-positive q al)
 
--- a lane's bit, its step and its distance, as the code works them out
+-- the results of `lane_bit`, `apart` and `partners`, as the code computes them
 pub lane-bit-code : (k : ℕ) → (bitAnd (k + 1) 3 ≡ laneBit k) × (bitAnd (k + 1) 3 < 4)
 unfolding laneBit
 lane-bit-code k = let e : bitAnd (k + 1) 3 ≡ suc k % 4 = and-mask (k + 1) 2 ∙ ap (λ n. n % 4) (add-one k) in (e, omega (arith, e))
 
-pub lane-step-code : (l : ℕ) → l < 4 → ((4 * 2 ^ l) % 4294967296 ≡ 4 * 2 ^ l) × ((4 * 2 ^ l) % 4294967296 < 64)
-lane-step-code l h = omega (arith, pow-mono {i = l} {j = 3} (omega arith))
-
 pub apart-code : (l k : ℕ) → l ≡ laneBit k → l < 4 → ((1 * 2 ^ l) % 4294967296 ≡ 2 ^ laneBit k) × ((1 * 2 ^ l) % 4294967296 < 16)
 apart-code l k e h = omega (arith, pow-mono {i = l} {j = 3} (omega arith), ap (λ n. 2 ^ n) e)
 
-pub partners-code : (l k x step : ℕ) → l ≡ laneBit k → step ≡ 4 * 2 ^ l → x / 2 ^ step ≡ x / 2 ^ (4 * 2 ^ laneBit k)
-partners-code l k x step e f = ap (λ n. x / 2 ^ n) (f ∙ ap (λ n. 4 * 2 ^ n) e)
+pub lane-step-code : (l k : ℕ) → l ≡ laneBit k → l < 4 → ((4 * 2 ^ l) % 4294967296 ≡ 4 * 2 ^ laneBit k) × ((4 * 2 ^ l) % 4294967296 < 64)
+lane-step-code l k e h = omega (arith, pow-mono {i = l} {j = 3} (omega arith), ap (λ n. 2 ^ n) e)
 
 pub partners-below : (q k x y : ℕ) → isAlphabet q ≡ true → x < 18446744073709551616 → Below q x → y ≡ x / 2 ^ (4 * 2 ^ laneBit k) → Below q y
 partners-below q k x y al h b e t i = omega (arith, ap (λ n. digit 4 n t) e, down-below q (2 ^ laneBit k) x al h b t i)
 
--- the votes in the lanes that the mask e keeps
-pub votes-in-is : (q k x y l e d : ℕ) → l ≡ laneBit k → y ≡ x / 2 ^ (4 * 2 ^ laneBit k) → ClearLanes l e → Lanes d (λ t. subMod q (digit 4 y t) (digit 4 x t)) → VotesIn q k x (bitAnd d e)
+-- the mask e keeps the votes, and clears the other lanes
+pub votes-in-is : (q k x y l e d : ℕ) → l ≡ laneBit k → y ≡ x / 2 ^ (4 * 2 ^ laneBit k) → ClearLanes l e
+    → Lanes d (λ t. subMod q (digit 4 y t) (digit 4 x t)) → VotesIn q k x (bitAnd d e)
 votes-in-is q k x y l e d f g c v = record {
   votes = λ t h z.
       digit-and 4 d e t ∙ keep (digit 4 d t) (digit 4 e t) (digit-lt 4 d t) (c t h ∙ ap (λ b. 15 * (1 - b)) (ap (λ n. bit n t) f ∙ z))
@@ -203,7 +193,7 @@ votes-in-is q k x y l e d f g c v = record {
   others = λ t h z. digit-and 4 d e t ∙ drop (digit 4 d t) (digit 4 e t) (c t h ∙ ap (λ b. 15 * (1 - b)) (ap (λ n. bit n t) f ∙ z));
 }
 
--- no lane is anything
+-- every lane of 0 is 0
 pub none-lanes : Lanes 0 (λ t. 0)
 unfolding every digit
 none-lanes = lanes-are 0 (λ t. 0) refl
@@ -211,7 +201,7 @@ none-lanes = lanes-are 0 (λ t. 0) refl
 pub none-below : (q : ℕ) → isAlphabet q ≡ true → Below q 0
 none-below q al t h = omega (arith, none-lanes t h, alphabet-positive q al)
 
--- the lane of a place, and the place of a lane
+-- `laneOf` and `offset` take the places below 16 to the lanes below 16 and back
 pub offset-lt : (t : ℕ) → t < 16 → offset t < 16
 unfolding offset
 offset-lt t h = omega arith

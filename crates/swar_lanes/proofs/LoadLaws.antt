@@ -1,4 +1,4 @@
--- Sixteen symbols in the lanes of a number. Assumes nothing.
+-- Sixteen symbols stand in the lanes of a number. Assumes nothing.
 use Prim.Native.Nat.{ℕ, zero, suc, _+_, _*_, _/_, _%_, _^_, _≤_, _<_}
 use mathlib.Core.Path.{_≡_, refl, ap, ap₂, sym, _∙_, subst}
 use mathlib.Core.Logic.{_⊎_, inl, inr}
@@ -22,15 +22,16 @@ use Rattle.swar_lanes.specs.Lane.{offset, Low, Held, Loaded}
 pub word-low : (q m : ℕ) (w : List ℕ) → WellFormed q m w → Low w
 word-low q m w r i l = omega (arith, r .symbols .below i (omega (arith, r .symbols .size, l)), bounds q (r .alphabet))
 
--- the bytes of eight symbols that fit a lane, whichever they are
-pub low-bytes : (w : List ℕ) (place : ℕ → ℕ) (a : ℕ) → ((l : ℕ) → l < 8 → digit 8 a l ≡ at w (place l)) → Low w → ((l : ℕ) → l < 8 → place l < length w) → (l : ℕ) → l < 8 → digit 8 a l < 16
+-- where the bytes of a are symbols of w, at whatever places, they fit a lane
+pub low-bytes : (w : List ℕ) (place : ℕ → ℕ) (a : ℕ) → ((l : ℕ) → l < 8 → digit 8 a l ≡ at w (place l)) → Low w
+    → ((l : ℕ) → l < 8 → place l < length w) → (l : ℕ) → l < 8 → digit 8 a l < 16
 low-bytes w place a e low fits l h = omega (arith, e l h, low (place l) (fits l h))
 
 fifteen-bytes : (l : ℕ) → l < 8 → digit 8 0x0f0f_0f0f_0f0f_0f0f l ≡ 15
 unfolding every digit
 fifteen-bytes l h = eqb-true _ _ (every-at 8 (λ l. eqb (digit 8 0x0f0f_0f0f_0f0f_0f0f l) 15) refl l h)
 
--- such a number is small
+-- a number whose bytes fit a lane has no byte above 15
 pub low-le : (a : ℕ) → a < 18446744073709551616 → ((l : ℕ) → l < 8 → digit 8 a l < 16) → a ≤ 0x0f0f_0f0f_0f0f_0f0f
 low-le a ha la = sub-le 8 8 0x0f0f_0f0f_0f0f_0f0f a (omega arith) ha (λ l h. omega (arith, fifteen-bytes l h, la l h))
 
@@ -39,7 +40,7 @@ module _ (a b : ℕ) (ha : a < 18446744073709551616) (hb : b < 18446744073709551
   grown : (l : ℕ) → l < 8 → 16 * digit 8 b l < 2 ^ 8
   grown l h = omega (arith, lb l h)
 
-  -- the second eight, shifted, fit
+  -- the second eight bytes, shifted by one lane, lose no bit
   shifted : (b * 2 ^ 4) % 18446744073709551616 ≡ 16 * b
   shifted = ap (λ z. z % 18446744073709551616) (mul-comm b 16) ∙ mod-eq-of-lt (times-lt 8 8 16 b hb grown)
 
@@ -52,7 +53,7 @@ module _ (a b : ℕ) (ha : a < 18446744073709551616) (hb : b < 18446744073709551
         digit-add 8 8 a (16 * b) ha (times-lt 8 8 16 b hb grown) bytes l h
         ∙ ap₂ (λ x y. x + y) (first l h) (digit-times 8 8 16 b hb grown l h ∙ ap (λ z. 16 * z) (second l h))
 
-    -- THE LANES of the two together
+    -- THE LANES of the sum are the sixteen symbols
     pub sixteen-held : Held w i (a + (b * 2 ^ 4) % 18446744073709551616)
     unfolding offset
     sixteen-held t h = rw shifted (go (t / 2) (t % 2) refl refl)
@@ -72,7 +73,7 @@ module _ (a b : ℕ) (ha : a < 18446744073709551616) (hb : b < 18446744073709551
             ap (digit 4 (a + 16 * b)) g ∙ digit-odd 4 (a + 16 * b) l ∙ ap (λ z. z / 16) (byte l k) ∙ value ∙ ap (at w) place
         go l (suc (suc p)) e f = absurd (omega arith)
 
--- one number more
+-- before the loop no number is loaded, and a turn of the loop loads the next one
 pub loaded-none : (w x : List ℕ) → Loaded w x x 0
 loaded-none w x = record { size = refl; packed = λ j l. absurd (not-suc-le-zero l); rest = λ j l. refl }
 

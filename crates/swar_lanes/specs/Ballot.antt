@@ -27,7 +27,7 @@ unfoldable pub either : ℕ → ℕ → ℕ → ℕ
 either zero x y = x
 either (suc b) x y = y
 
--- the place, among 32, of the vote for coefficient k in lane t: one of the first sixteen or of the second
+-- the place, among 32, of the vote for coefficient k in lane t: one of the first sixteen where the bit of the lane is 0, else of the second
 unfoldable pub place : ℕ → ℕ → ℕ
 place k t = either (bit (laneBit k) t) (offset t) (16 + offset (t - 2 ^ laneBit k))
 
@@ -39,7 +39,7 @@ VotesWithin q k a b r = (w : List ℕ) (i : ℕ) → Held w i a → Held w (i + 
 unfoldable pub spot : ℕ → ℕ → ℕ → ℕ
 spot k j t = cond (ltb k 4) (32 * j + place k t) (16 * nthClear (k - 4) j + offset t)
 
--- what ballot j for coefficient k asks for: the numbers that it reads are in x
+-- what `ballot` requires: the numbers that ballot j for coefficient k reads are in x
 pub record Reach (q k j : ℕ) (x : List ℕ) : Type 0 where
   pub alphabet : isAlphabet q ≡ true
   pub size : length x ≡ 16

@@ -1,4 +1,4 @@
--- Symbols in the lanes of numbers.
+-- Symbols in the four-bit lanes of numbers.
 use Prim.Native.Nat.{ℕ, _+_, _*_, _-_, _/_, _%_, _≤_, _<_}
 use mathlib.Core.Path.{_≡_}
 use mathlib.Core.List.{List}

@@ -11,7 +11,7 @@ ghost use Rattle.swar_theory.specs.Digit.{digit};
 ghost use Rattle.swar_lanes.specs.Lane.{Lanes, Below, Within, Low, Held, Loaded, ClearLanes, Blend};
 ghost use Rattle.swar_lanes.specs.Ballot.{laneBit, VotesIn, VotesWithin, Reach, BallotOf};
 
-// The lanes whose bit l is 0, filled with ones.
+// A number with 15 in every lane whose number has bit l clear, and 0 in the others.
 fn clear(l: u32) -> u64
     requires { ⌜ l < 4 ⌝ }
     ensures { λ r. ⌜ ClearLanes l r ⌝ }
@@ -24,7 +24,7 @@ fn clear(l: u32) -> u64
     }
 }
 
-// The lanes of u whose bit l is 0, and those of v whose bit l is 1.
+// The lanes of u where bit l of the lane's number is 0, and those of v where it is 1.
 fn blend(l: u32, u: u64, v: u64) -> u64
     requires { ⌜ l < 4 ⌝ }
     ensures { λ r. ⌜ Blend l u v r ⌝ }
@@ -49,15 +49,15 @@ fn lane_bit(k: u32) -> u32
     (k + 1) & 3
 }
 
-// How many bits 2^l lanes have.
-fn lane_step(l: u32) -> u32
-    requires { ⌜ l < 4 ⌝ }
-    ensures { λ r. ⌜ (r ≡ 4 * 2 ^ l) × (r < 64) ⌝ }
+// The partner of a place for coefficient k, below 4, stands this many bits further on.
+fn lane_step(k: u32) -> u32
+    requires { ⌜ k < 4 ⌝ }
+    ensures { λ r. ⌜ (r ≡ 4 * 2 ^ laneBit k) × (r < 64) ⌝ }
 {
-    4 << l
+    4 << lane_bit(k)
 }
 
-// How many lanes the partner of a place stands further on, for coefficient k.
+// The partner of a place for coefficient k, below 4, stands this many lanes further on.
 pub fn apart(k: u32) -> u32
     requires { ⌜ k < 4 ⌝ }
     ensures { λ r. ⌜ (r ≡ 2 ^ laneBit k) × (r < 16) ⌝ }
@@ -65,12 +65,12 @@ pub fn apart(k: u32) -> u32
     1 << lane_bit(k)
 }
 
-// The lanes of x moved down, so that each stands in the lane of the place whose partner for coefficient k it is.
+// The lanes of x moved down, so that the partner of a place for coefficient k stands in the lane of that place.
 pub fn partners(k: u32, x: u64) -> u64
     requires { ⌜ k < 4 ⌝ }
     ensures { λ r. ⌜ r ≡ x / 2 ^ (4 * 2 ^ laneBit k) ⌝ }
 {
-    x >> lane_step(lane_bit(k))
+    x >> lane_step(k)
 }
 
 // The votes for coefficient k, below 4, of the places that one number holds: each in the lane of its place, whose bit k is 0; the other
@@ -82,7 +82,7 @@ pub fn votes_in(q: u64, k: u32, x: u64) -> u64
     less(q, partners(k, x), x) & clear(lane_bit(k))
 }
 
-// Number i.
+// Number i of a packed word.
 fn number(x: &[u64; 16], i: usize) -> u64
     requires { ⌜ i < 16 ⌝ }
     ensures { λ r. ⌜ r ≡ at (now (x .entry)) i ⌝ }
@@ -90,20 +90,19 @@ fn number(x: &[u64; 16], i: usize) -> u64
     x[i]
 }
 
-// The sixteen votes for coefficient k, below 4, in two numbers: those of the first in the lanes whose bit is 0, those of the second
-// in the others.
+// The sixteen votes for coefficient k, below 4, of the 32 places in a and b: those of a in the lanes of its places whose bit k is 0, those
+// of b in the other lanes.
 pub fn votes_within(q: u64, k: u32, a: u64, b: u64) -> u64
     requires { ⌜ (isAlphabet q ≡ true) × Below q a × Below q b × (k < 4) ⌝ }
     ensures { λ r. ⌜ VotesWithin q k a b r × Below q r ⌝ }
 {
     let l = lane_bit(k);
-    let step = lane_step(l);
-    let high = blend(l, a >> step, b);
-    let low = blend(l, a, b << step);
+    let high = blend(l, partners(k, a), b);
+    let low = blend(l, a, b << lane_step(k));
     less(q, high, low)
 }
 
-// The sixteen votes for coefficient k, from 4 on: the partners of number i stand 2^(k - 4) numbers further on.
+// Ballot j for coefficient k, 4 or more: sixteen votes of number i, whose partners stand 2^(k - 4) numbers further on.
 fn votes_across(q: u64, k: u32, j: usize, x: &[u64; 16]) -> u64
     requires { ⌜ Reach q k j (now x) × (4 ≤ k) ⌝ }
     ensures { λ r. ⌜ BallotOf q k j (now (x .entry)) r × Below q r ⌝ }
@@ -112,7 +111,7 @@ fn votes_across(q: u64, k: u32, j: usize, x: &[u64; 16]) -> u64
     less(q, number(x, i + code_arith::pow2(k - 4)), number(x, i))
 }
 
-// Ballot j for coefficient k: sixteen of its votes.
+// Ballot j for coefficient k: sixteen of the votes, one in each lane.
 pub fn ballot(q: u64, k: u32, j: usize, x: &[u64; 16]) -> u64
     requires { ⌜ Reach q k j (now x) ⌝ }
     ensures { λ r. ⌜ BallotOf q k j (now (x .entry)) r × Below q r ⌝ }
@@ -123,7 +122,7 @@ pub fn ballot(q: u64, k: u32, j: usize, x: &[u64; 16]) -> u64
     votes_across(q, k, j, x)
 }
 
-// What the lanes of number j of x are ahead of those of y by.
+// The lanes of number j of x minus those of number j of y, modulo q.
 pub fn differences(q: u64, j: usize, x: &[u64; 16], y: &[u64; 16]) -> u64
     requires { ⌜ (isAlphabet q ≡ true) × (j < 16) × Within q (now x) × Within q (now y) ⌝ }
     ensures { λ r. ⌜ Lanes r (λ t. subMod q (digit 4 (at (now (x .entry)) j) t) (digit 4 (at (now (y .entry)) j) t)) ⌝ }
@@ -131,7 +130,7 @@ pub fn differences(q: u64, j: usize, x: &[u64; 16], y: &[u64; 16]) -> u64
     less(q, number(x, j), number(y, j))
 }
 
-// The sixteen symbols from place 16 j on: the second eight in the odd lanes.
+// The sixteen symbols from place 16 j on: the first eight in the even lanes, the second eight in the odd ones.
 pub fn sixteen(word: &[u8], j: usize) -> u64
     requires { ⌜ (16 * j + 16 ≤ length (now word)) × (length (now word) ≤ 256) × Low (now word) ⌝ }
     ensures { λ r. ⌜ Held (now (word .entry)) (16 * j) r ⌝ }

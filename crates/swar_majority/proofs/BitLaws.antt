@@ -1,4 +1,4 @@
--- The bits of `and`, `or`, `xor`, of shifts and of lanes; the full adder at each place, and the count of seven lanes. Assumes nothing.
+-- The bits of `and`, `or`, `xor`, of shifts and of lanes, the full adder, and the count of seven lanes. Assumes nothing.
 use Prim.Native.Nat.{ℕ, zero, suc, _+_, _*_, _/_, _%_, _^_, _<_, min, max}
 use mathlib.Core.Path.{_≡_, ap, ap₂, sym, _∙_}
 use native.Mathlib.Omega.{arith}
@@ -10,7 +10,7 @@ use Rattle.code_theory.proofs.IndexLaws.{bit-lt}
 use Rattle.swar_theory.specs.Digit.{digit}
 use Rattle.swar_majority.specs.Sliced.{Parity, Carry, Down, sevenBits, Counted}
 
--- the lowest bit
+-- the lowest bit of `and`, `or` and `xor`
 and-low : (a b : ℕ) → bitAnd a b % 2 ≡ min (a % 2) (b % 2)
 and-low a b = omega (arith, and-step a b)
 
@@ -20,7 +20,7 @@ or-low a b = omega (arith, or-step a b)
 xor-low : (a b : ℕ) → bitXor a b % 2 ≡ (a % 2 + b % 2) % 2
 xor-low a b = omega (arith, xor-add-and a b)
 
--- any bit
+-- bit i of `and`, `or` and `xor`
 bit-and : (i a b : ℕ) → bit i (bitAnd a b) ≡ min (bit i a) (bit i b)
 unfolding bit
 bit-and i a b = ap (λ x. x % 2) (and-shr a b i) ∙ and-low (a / 2 ^ i) (b / 2 ^ i)
@@ -33,7 +33,7 @@ bit-xor : (i a b : ℕ) → bit i (bitXor a b) ≡ (bit i a + bit i b) % 2
 unfolding bit
 bit-xor i a b = ap (λ x. x % 2) (xor-shr a b i) ∙ xor-low (a / 2 ^ i) (b / 2 ^ i)
 
--- THE FULL ADDER
+-- THE FULL ADDER: `parity` and `carry` compute the two bits of a sum of three bits
 pub parity-is : (a b c : ℕ) → Parity a b c (bitXor (bitXor a b) c)
 parity-is a b c = record { low = λ i. omega (arith, bit-xor i (bitXor a b) c, bit-xor i a b, bit-lt i a, bit-lt i b, bit-lt i c) }
 
@@ -42,12 +42,13 @@ carry-is a b c = record {
   high = λ i. omega (arith, bit-or i (bitAnd a b) (bitAnd c (bitXor a b)), bit-and i a b, bit-and i c (bitXor a b), bit-xor i a b, bit-lt i a, bit-lt i b, bit-lt i c);
 }
 
--- a shift by whole lanes
+-- a shift by 4 * a bits moves lane a to lane 0
 pub down-is : (d a : ℕ) → Down d a (d / 2 ^ (4 * a))
 unfolding bit
 down-is d a = record { moved = λ i. ap (λ x. x % 2) (shr-shr d (4 * a) i) }
 
--- THE COUNT of seven lanes: s and t add three of them, ones and p the low bits of these and of those c further on and lane a + b, twos and fours the rest
+-- THE COUNT of seven lanes: s and t are the sum of the lanes 0, a and b, and c lanes further on that of the lanes c, c + a and c + b. Their
+-- low bits and lane a + b make ones and the carry p; their high bits and p make twos and fours.
 pub counted : {d a b c s t p ones twos fours da db da′ db′ e sc sc′ tc tc′ : ℕ}
     → Down d a da → Down d b db → Parity d da db s
     → Down d a da′ → Down d b db′ → Carry d da′ db′ t
@@ -59,13 +60,13 @@ pub counted : {d a b c s t p ones twos fours da db da′ db′ e sc sc′ tc tc�
     → Counted d a b c ones twos fours
 unfolding sevenBits
 counted {d = d} {a = a} {b = b} {c = c} {s = s} {t = t} {p = p} {ones = ones} {twos = twos} {fours = fours} ha hb hs ka kb ht he hsc hp ksc h1 htc h2 ktc h4 =
-    record { count = λ i. omega (arith, near i, further i, all i) }
+    record { count = λ i. omega (arith, one i, other i, all i) }
   where
-    near : (i : ℕ) → bit i s + 2 * bit i t ≡ bit i d + bit (4 * a + i) d + bit (4 * b + i) d
-    near i = omega (arith, ha .moved i, hb .moved i, hs .low i, ka .moved i, kb .moved i, ht .high i)
+    one : (i : ℕ) → bit i s + 2 * bit i t ≡ bit i d + bit (4 * a + i) d + bit (4 * b + i) d
+    one i = omega (arith, ha .moved i, hb .moved i, hs .low i, ka .moved i, kb .moved i, ht .high i)
 
-    further : (i : ℕ) → bit (4 * c + i) s + 2 * bit (4 * c + i) t ≡ bit (4 * c + i) d + bit (4 * (c + a) + i) d + bit (4 * (c + b) + i) d
-    further i = near (4 * c + i) ∙ ap₂ (λ x y. bit (4 * c + i) d + bit x d + bit y d) (omega arith) (omega arith)
+    other : (i : ℕ) → bit (4 * c + i) s + 2 * bit (4 * c + i) t ≡ bit (4 * c + i) d + bit (4 * (c + a) + i) d + bit (4 * (c + b) + i) d
+    other i = one (4 * c + i) ∙ ap₂ (λ x y. bit (4 * c + i) d + bit x d + bit y d) (omega arith) (omega arith)
 
     first : (i : ℕ) → bit i ones + 2 * bit i p ≡ bit i s + bit (4 * c + i) s + bit (4 * (a + b) + i) d
     first i = omega (arith, he .moved i, hsc .moved i, hp .high i, ksc .moved i, h1 .low i)
@@ -76,7 +77,7 @@ counted {d = d} {a = a} {b = b} {c = c} {s = s} {t = t} {p = p} {ones = ones} {t
     all : (i : ℕ) → bit i ones + 2 * bit i twos + 4 * bit i fours ≡ bit i s + 2 * bit i t + (bit (4 * c + i) s + 2 * bit (4 * c + i) t) + bit (4 * (a + b) + i) d
     all i = omega (arith, first i, second i)
 
--- the low three bits of a lane
+-- the low three bits of lane t are the bits of its value
 pub lane-bit : (d t j : ℕ) → j < 3 → bit (4 * t + j) d ≡ bit j (digit 4 d t)
 unfolding bit digit
 lane-bit d t j h = ap (λ x. x % 2) (sym (shr-shr d (4 * t) j)) ∙ low j h (d / 2 ^ (4 * t))

@@ -15,19 +15,19 @@ use Rattle.swar_majority.specs.Most.{threeOf, sevenOf, fifteenOf, Most}
 use Rattle.swar_majority.specs.Sliced.{Carry, Down, sevenBits, Counted}
 use Rattle.swar_majority.proofs.BitLaws.{lane-bit}
 
--- what the bits of n lanes tell: s of the lanes are v, k have bit j set, and bit j of v is w
+-- what a count of bits tells: of n lanes, s are v and k have bit j set, where bit j of v is w
 record Tells (n w k s : ℕ) : Type 0 where
   set : w ≡ 1 → s ≤ k
   clear : w ≡ 0 → k + s ≤ n
 
--- two sets of lanes together
+-- what the counts of two sets of lanes tell, the sums of the counts tell of both sets
 both : {n m w k l s t : ℕ} → Tells n w k s → Tells m w l t → Tells (n + m) w (k + l) (s + t)
 both p q = record {
   set = λ e. omega (arith, p .set e, q .set e);
   clear = λ e. omega (arith, p .clear e, q .clear e);
 }
 
--- bit j of a lane, of three lanes and of seven
+-- what bit j tells of one lane, of three lanes and of seven
 module _ (d v j : ℕ) (h : j < 3) where
   tells : (t : ℕ) → Tells 1 (bit j v) (bit (4 * t + j) d) (same (digit 4 d t) v)
   tells t = go (ℕ-discrete (digit 4 d t) v)
@@ -53,7 +53,7 @@ module _ (d v j : ℕ) (h : j < 3) where
   unfolding sevenBits sevenOf
   seven-tell a b c = both (both (both (both (both (both tells-first (tells a)) (tells b)) (tells (a + b))) (tells c)) (tells (c + a))) (tells (c + b))
 
--- a number below 8 is its three bits
+-- a number modulo 8 is given by its three lowest bits
 low-bits : (x : ℕ) → x % 8 ≡ bit 2 x * 4 + (bit 1 x * 2 + bit 0 x)
 unfolding bit
 low-bits x = mod-pow-add x 1 2 ∙ ap (λ y. x / 4 % 2 * 4 + y) (mod-pow-add x 1 1 ∙ ap (λ y. x / 2 % 2 * 2 + y % 2) (sym (div-one x)))
@@ -64,14 +64,14 @@ low-three x v h e =
     ∙ ap₂ (λ u w. u * 4 + w) (e 2 (omega arith)) (ap₂ (λ u w. u * 2 + w) (e 1 (omega arith)) (e 0 (omega arith)))
     ∙ sym (low-bits v) ∙ mod-eq-of-lt h
 
--- a number that has the three bits of every v that n lanes or more have
+-- a number whose three lowest bits are those of any v that n lanes or more have is that v modulo 8
 most : (n : ℕ) (f : ℕ → ℕ) (x : ℕ) → ((v : ℕ) → n ≤ f v → (j : ℕ) → j < 3 → bit j x ≡ bit j v) → Most n f (bitAnd x 7)
 most n f x h = record {
   fits = omega (arith, and-mask x 3);
   is = λ v l k. and-mask x 3 ∙ low-three x v l (h v k);
 }
 
--- MOST OF THREE
+-- MOST OF THREE lanes: the carry has the bits of a value that two of them have
 pub most-three : {d a b da db x : ℕ} → Down d a da → Down d b db → Carry d da db x → Most 2 (threeOf d a b) (bitAnd x 7)
 most-three {d = d} {a = a} {b = b} {x = x} ha hb hx = most 2 (threeOf d a b) x each
   where
@@ -82,7 +82,7 @@ most-three {d = d} {a = a} {b = b} {x = x} ha hb hx = most 2 (threeOf d a b) x e
         (λ e. omega (arith, p .clear e, hx .high j, ha .moved j, hb .moved j))
         (λ e. omega (arith, p .set e, hx .high j, ha .moved j, hb .moved j, bit-lt j x))
 
--- MOST OF SEVEN
+-- MOST OF SEVEN lanes: fours has the bits of a value that four of them have
 pub most-seven : {d a b c ones twos fours : ℕ} → Counted d a b c ones twos fours → Most 4 (sevenOf d a b c) (bitAnd fours 7)
 most-seven {d = d} {a = a} {b = b} {c = c} {ones = ones} {twos = twos} {fours = fours} n = most 4 (sevenOf d a b c) fours each
   where
@@ -93,12 +93,12 @@ most-seven {d = d} {a = a} {b = b} {c = c} {ones = ones} {twos = twos} {fours = 
         (λ e. omega (arith, p .clear e, n .count j))
         (λ e. omega (arith, p .set e, n .count j, bit-lt j ones, bit-lt j twos, bit-lt j fours))
 
--- the eights of the sum of two counts and a bit
+-- three carries give the eights of the sum of two counts and a bit
 eights : {f₁ f₂ f₄ g₁ g₂ g₄ z x y r : ℕ} → Carry f₁ g₁ z x → Carry f₂ g₂ x y → Carry f₄ g₄ y r
     → (j : ℕ) → bit j r ≡ (bit j f₁ + 2 * bit j f₂ + 4 * bit j f₄ + (bit j g₁ + 2 * bit j g₂ + 4 * bit j g₄) + bit j z) / 8
 eights hx hy hr j = omega (arith, hx .high j, hy .high j, hr .high j)
 
--- MOST OF FIFTEEN
+-- MOST OF FIFTEEN lanes: the eights of the sum have the bits of a value that eight of them have
 pub most-fifteen : {d e a b c f₁ f₂ f₄ g₁ g₂ g₄ z x y r : ℕ} → Counted d a b c f₁ f₂ f₄ → Counted e a b c g₁ g₂ g₄
     → Down e (a + b + c) z → Carry f₁ g₁ z x → Carry f₂ g₂ x y → Carry f₄ g₄ y r → Most 8 (fifteenOf d e a b c) (bitAnd r 7)
 unfolding fifteenOf

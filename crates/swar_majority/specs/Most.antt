@@ -13,7 +13,7 @@ unfoldable pub sevenOf : ℕ → ℕ → ℕ → ℕ → ℕ → ℕ
 sevenOf d a b c v =
     same (digit 4 d 0) v + same (digit 4 d a) v + same (digit 4 d b) v + same (digit 4 d (a + b)) v + same (digit 4 d c) v + same (digit 4 d (c + a)) v + same (digit 4 d (c + b)) v
 
--- how many of these seven lanes of d, the same seven of e, and lane a + b + c of e are v
+-- how many of fifteen lanes are v: these seven lanes of d, the same seven of e, and lane a + b + c of e
 unfoldable pub fifteenOf : ℕ → ℕ → ℕ → ℕ → ℕ → ℕ → ℕ
 fifteenOf d e a b c v = sevenOf d a b c v + sevenOf e a b c v + same (digit 4 e (a + b + c)) v
 

@@ -1,17 +1,17 @@
 // The value that most of 3, 7 or 15 lanes of four bits have, with no loop: a full adder on whole numbers counts the bits of the lanes,
-// one count at each place.
+// one count at each bit of a number.
 ghost use Prim.Native.Nat.{_+_, _<_};
 ghost use Rattle.swar_majority.specs.Most.{threeOf, sevenOf, fifteenOf, Most};
 ghost use Rattle.swar_majority.specs.Sliced.{Parity, Carry, Down, Counted};
 
-// The low bit of the sum of three bits, at each place.
+// At each bit, the low bit of the sum of three bits.
 fn parity(a: u64, b: u64, c: u64) -> u64
     ensures { λ r. ⌜ Parity a b c r ⌝ }
 {
     a ^ b ^ c
 }
 
-// The high bit of the sum of three bits, at each place.
+// At each bit, the high bit of the sum of three bits.
 fn carry(a: u64, b: u64, c: u64) -> u64
     ensures { λ r. ⌜ Carry a b c r ⌝ }
 {
@@ -26,14 +26,14 @@ fn down(d: u64, a: u32) -> u64
     d >> (4 * a)
 }
 
-// A count at each place: its three bits.
+// At each bit, a count of up to seven: its three bits stand in three numbers.
 pub struct Count {
     pub ones: u64,
     pub twos: u64,
     pub fours: u64,
 }
 
-// Counts the bits of the lanes 0, a, b, a + b, c, c + a and c + b.
+// At each bit, counts the lanes among 0, a, b, a + b, c, c + a and c + b that have it set.
 fn seven(d: u64, a: u32, b: u32, c: u32) -> Count
     requires { ⌜ a + b + c < 16 ⌝ }
     ensures { λ r. ⌜ Counted d a b c (r .ones) (r .twos) (r .fours) ⌝ }
@@ -57,7 +57,7 @@ pub fn most_of_3(d: u64, a: u32, b: u32) -> u64
     carry(d, down(d, a), down(d, b)) & 7
 }
 
-// The value that four or more of the seven lanes have.
+// The value that four or more of the seven lanes 0, a, b, a + b, c, c + a and c + b have.
 pub fn most_of_7(d: u64, a: u32, b: u32, c: u32) -> u64
     requires { ⌜ a + b + c < 16 ⌝ }
     ensures { λ r. ⌜ Most 4 (sevenOf d a b c) r ⌝ }
@@ -65,7 +65,7 @@ pub fn most_of_7(d: u64, a: u32, b: u32, c: u32) -> u64
     seven(d, a, b, c).fours & 7
 }
 
-// The value that eight or more of fifteen lanes have: seven of d, the same seven of e, and lane a + b + c of e.
+// The value that eight or more of fifteen lanes have: these seven lanes of d, the same seven of e, and lane a + b + c of e.
 pub fn most_of_15(d: u64, e: u64, a: u32, b: u32, c: u32) -> u64
     requires { ⌜ a + b + c < 16 ⌝ }
     ensures { λ r. ⌜ Most 8 (fifteenOf d e a b c) r ⌝ }

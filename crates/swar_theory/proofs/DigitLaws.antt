@@ -2,9 +2,10 @@
 use Prim.Native.Nat.{ℕ, zero, suc, _+_, _*_, _-_, _/_, _%_, _^_, _≤_, _<_}
 use mathlib.Core.Path.{_≡_, refl, ap, ap₂, sym, _∙_, subst}
 use mathlib.Core.Logic.{_⊎_, inl, inr}
-use native.Mathlib.Nat.{not-suc-le-zero, le-of-suc-le-suc, eq-or-lt-of-le, add-comm, mul-comm, mul-assoc, add-mul, one-mul, mul-le-mul-right, mod-lt, mod-add-div, add-mul-div-right, add-mul-mod-self-right, div-eq-of-lt, mod-eq-of-lt, le-trans, le-of-eq, lt-of-lt-of-le, mul-suc, mul-zero, mul-one, two-mul, mul-add, sub-add-cancel, eq-sub-of-add-eq}
+use native.Mathlib.Nat.{not-suc-le-zero, le-of-suc-le-suc, eq-or-lt-of-le, add-comm, mul-comm, mul-assoc, add-mul, one-mul, mul-le-mul-left, mul-le-mul-right, mod-lt}
+use native.Mathlib.Nat.{add-mul-div-right, add-mul-mod-self-right, div-eq-of-lt, mod-eq-of-lt, lt-of-lt-of-le, mul-suc, mul-zero, mul-one, two-mul, mul-add, sub-add-cancel, eq-sub-of-add-eq}
 use native.Mathlib.Omega.{arith}
-use lib.Pow.{pow-add, pow-pos, split, high, low, shr-mod, shr-shr, shl-shr, mod-mod-pow, field}
+use lib.Pow.{pow-add, pow-mono, pow-pos, split, high, shr-mod, shr-shr, shl-shr, mod-mod-pow, field}
 use lib.Bits.{bitAnd, bitXor, and-shr, and-mod, xor-shr, xor-mod}
 use Rattle.code_theory.specs.Sum.{sum}
 use Rattle.code_theory.proofs.SumLaws.{sum-ext, sum-add}
@@ -16,6 +17,12 @@ next-power b n = ap (λ x. 2 ^ x) (mul-suc b n ∙ add-comm (b * n) b) ∙ pow-a
 pub digit-lt : (b x l : ℕ) → digit b x l < 2 ^ b
 unfolding digit
 digit-lt b x l = mod-lt _ (pow-pos b)
+
+-- a number of n digits has 0 in the digits from n on
+pub digit-past : (b n x l : ℕ) → x < 2 ^ (b * n) → n ≤ l → digit b x l ≡ 0
+unfolding digit
+digit-past b n x l h k =
+    ap (λ z. z % 2 ^ b) (div-eq-of-lt (lt-of-lt-of-le h (pow-mono {i = b * n} {j = b * l} (mul-le-mul-left b k)))) ∙ mod-eq-of-lt (pow-pos b)
 
 -- a digit is not changed by a multiple of a higher place
 pub digit-under : (b n l p c : ℕ) → l < n → digit b (p + c * 2 ^ (b * n)) l ≡ digit b p l
@@ -35,7 +42,7 @@ pub digit-mod : (b n x l : ℕ) → l < n → digit b (x % 2 ^ (b * n)) l ≡ di
 digit-mod b n x l h =
     sym (ap (λ y. digit b y l) (sym (split x (b * n)) ∙ add-comm (x / 2 ^ (b * n) * 2 ^ (b * n)) (x % 2 ^ (b * n))) ∙ digit-under b n l (x % 2 ^ (b * n)) (x / 2 ^ (b * n)) h)
 
--- digits that fit make a number below the power, and can be read off
+-- the number of n digits below 2 ^ b is below 2 ^ (b * n), and its digits are those
 pub number-lt : (b n : ℕ) (f : ℕ → ℕ) → ((l : ℕ) → l < n → f l < 2 ^ b) → number b n f < 2 ^ (b * n)
 unfolding number sum
 number-lt b zero f h = pow-pos (b * 0)
@@ -56,7 +63,7 @@ number-digit b (suc n) f h l k = go (eq-or-lt-of-le (le-of-suc-le-suc k)) (numbe
         ∙ mod-eq-of-lt (h n (omega arith)) ∙ ap f (sym e)
     go (inr m) ih = digit-under b n l (number b n f) (f n) m ∙ ih m
 
--- a number is the number of its digits
+-- a number below 2 ^ (b * n) is the number of its n digits
 pub number-of : (b n x : ℕ) → x < 2 ^ (b * n) → number b n (digit b x) ≡ x
 unfolding number sum digit
 number-of b zero x h = sym (lt-one (subst (λ y. x < 2 ^ y) (mul-zero b) h))
@@ -71,12 +78,12 @@ number-of b (suc n) x h =
     top : digit b x n ≡ x / 2 ^ (b * n)
     top = shr-mod b (b * n) (subst (λ y. x < 2 ^ y) (mul-suc b n ∙ add-comm (b * n) b) h)
 
--- numbers of n digits are equal where their digits are
+-- numbers of n digits are equal where all their digits are
 pub same-digits : (b n x y : ℕ) → x < 2 ^ (b * n) → y < 2 ^ (b * n) → ((l : ℕ) → l < n → digit b x l ≡ digit b y l) → x ≡ y
 unfolding number
 same-digits b n x y h k e = sym (number-of b n x h) ∙ sum-ext n _ _ (λ l i. ap (λ z. z * 2 ^ (b * l)) (e l i)) ∙ number-of b n y k
 
--- SUMS: where no two digits make more than a digit
+-- SUMS: where every sum of two digits fits a digit, the digits of x + y are these sums
 module _ (b n x y : ℕ) (h : x < 2 ^ (b * n)) (k : y < 2 ^ (b * n)) (fits : (l : ℕ) → l < n → digit b x l + digit b y l < 2 ^ b) where
   sum-number : x + y ≡ number b n (λ l. digit b x l + digit b y l)
   unfolding number
@@ -91,7 +98,7 @@ module _ (b n x y : ℕ) (h : x < 2 ^ (b * n)) (k : y < 2 ^ (b * n)) (fits : (l 
   pub add-lt : x + y < 2 ^ (b * n)
   add-lt = subst (λ z. z < 2 ^ (b * n)) (sym sum-number) (number-lt b n _ fits)
 
--- DIFFERENCES: where no digit of y is larger
+-- DIFFERENCES: where no digit of y is larger than that of x, the digits of x - y are the differences
 module _ (b n x y : ℕ) (h : x < 2 ^ (b * n)) (k : y < 2 ^ (b * n)) (below : (l : ℕ) → l < n → digit b y l ≤ digit b x l) where
   rest-number : number b n (λ l. digit b x l - digit b y l) + y ≡ x
   unfolding number
@@ -114,7 +121,7 @@ unfolding sum
 sum-times zero a f = mul-zero a
 sum-times (suc n) a f = mul-add a (sum n f) (f n) ∙ ap (λ z. z + a * f n) (sum-times n a f)
 
--- MULTIPLES, where no digit grows too large
+-- MULTIPLES: where a times every digit of x fits a digit, these are the digits of a * x
 module _ (b n a x : ℕ) (h : x < 2 ^ (b * n)) (fits : (l : ℕ) → l < n → a * digit b x l < 2 ^ b) where
   times-number : a * x ≡ number b n (λ l. a * digit b x l)
   unfolding number
@@ -127,7 +134,7 @@ module _ (b n a x : ℕ) (h : x < 2 ^ (b * n)) (fits : (l : ℕ) → l < n → a
   pub times-lt : a * x < 2 ^ (b * n)
   times-lt = subst (λ z. z < 2 ^ (b * n)) (sym times-number) (number-lt b n _ fits)
 
--- BIT OPERATIONS and shifts by whole digits
+-- BIT OPERATIONS and shifts by whole digits work digit by digit
 pub digit-and : (b x y l : ℕ) → digit b (bitAnd x y) l ≡ bitAnd (digit b x l) (digit b y l)
 unfolding digit
 digit-and b x y l = ap (λ z. z % 2 ^ b) (and-shr x y (b * l)) ∙ and-mod (x / 2 ^ (b * l)) (y / 2 ^ (b * l)) b
@@ -149,7 +156,7 @@ digit-up b x s l =
 twice : (b l : ℕ) → b * (2 * l) ≡ (b + b) * l
 twice b l = sym (mul-assoc b 2 l) ∙ ap (λ z. z * l) (mul-comm b 2 ∙ two-mul b)
 
--- two digits of b bits are one of 2 b
+-- a digit of 2 * b bits is two digits of b bits
 pub digit-even : (b x l : ℕ) → digit b x (2 * l) ≡ digit (b + b) x l % 2 ^ b
 unfolding digit
 digit-even b x l = ap (λ z. x / 2 ^ z % 2 ^ b) (twice b l) ∙ sym (mod-mod-pow (x / 2 ^ ((b + b) * l)) b b)

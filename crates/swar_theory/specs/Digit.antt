@@ -1,4 +1,4 @@
--- The digits of a number to the base 2 ^ b: what stands in its lanes of b bits.
+-- The digits of a number to the base 2 ^ b: the values of its lanes of b bits.
 use Prim.Native.Nat.{ℕ, _*_, _/_, _%_, _^_}
 use Rattle.code_theory.specs.Sum.{sum}
 

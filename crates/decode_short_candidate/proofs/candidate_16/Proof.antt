@@ -39,19 +39,19 @@ seven-requires-5 c κs = search needs
 returns : tie.Need-returns
 unfolding laneBit
 returns c =
-    let c1 = c .before in
-    let c2 = c1 .before in
-    let c3 = c2 .before in
-    let c4 = c3 .before in
-    let c5 = c4 .before in
-    let c6 = c5 .before in
-    let c7 = c6 .before in
-    let c8 = c7 .before in
-    let c9 = c8 .before in
-    let c10 = c9 .before in (
+    let left = c .before in
+    let k3 = left .before in
+    let k2 = k3 .before .before in
+    let k1 = k2 .before .before in
+    let k0 = k1 .before .before in
+    let s = k0 .before .before in (
       refl,
-      candidate-16 (c10 .args .q) (c10 .args .x) (c9 .votes-in .result) (c7 .votes-in2 .result) (c5 .votes-in3 .result) (c3 .votes-in4 .result) (c1 .rest .result) (c .seven5 .result) (c8 .seven .result) (c6 .seven2 .result) (c4 .seven3 .result) (c2 .seven4 .result) (c10 .pre .0) (c10 .pre .1)
-          (c9 .votes-in .ensures) (c8 .seven .ensures) (c7 .votes-in2 .ensures) (c6 .seven2 .ensures) (c5 .votes-in3 .ensures) (c4 .seven3 .ensures) (c3 .votes-in4 .ensures) (c2 .seven4 .ensures) (c1 .rest .ensures) (c .seven5 .ensures),
+      candidate-16 (s .args .q) (s .args .x) _ _ _ _ _ _ _ _ _ _ (s .pre .0) (s .pre .1)
+          (k0 .before .votes-in .ensures) (k0 .seven .ensures)
+          (k1 .before .votes-in2 .ensures) (k1 .seven2 .ensures)
+          (k2 .before .votes-in3 .ensures) (k2 .seven3 .ensures)
+          (k3 .before .votes-in4 .ensures) (k3 .seven4 .ensures)
+          (left .rest .ensures) (c .seven5 .ensures),
     )
 
 pub candidate-16-spec : {M : Type 1} → statement M

@@ -23,20 +23,17 @@ symbol-requires-3 c κs = search needs
 
 returns : tie.Need-returns
 returns c =
-    let c1 = c .before in
-    let c2 = c1 .before in
-    let c3 = c2 .before in
-    let c4 = c3 .before in
-    let c5 = c4 .before in
-    let q = c5 .args .q in
-    let al = c5 .pre .0 in (
+    let k1 = c .before in
+    let k0 = k1 .before .before in
+    let s = k0 .before .before in
+    let al = s .pre .0 in (
       refl,
       refl,
       refl,
-      candidate-4 q (c5 .args .x) (c4 .votes-in .result) (c2 .votes-in2 .result) (c .symbol3 .result) (c3 .symbol .result) (c1 .symbol2 .result) al (c5 .pre .1)
-          (c4 .votes-in .ensures) (chosen-one q (c4 .votes-in .result) (c3 .symbol .result) al (c3 .symbol .ensures))
-          (c2 .votes-in2 .ensures) (chosen-one q (c2 .votes-in2 .result) (c1 .symbol2 .result) al (c1 .symbol2 .ensures))
-          (chosen-one q (c5 .args .x) (c .symbol3 .result) al (c .symbol3 .ensures)),
+      candidate-4 (s .args .q) (s .args .x) _ _ _ _ _ al (s .pre .1)
+          (k0 .before .votes-in .ensures) (chosen-one _ _ _ al (k0 .symbol .ensures))
+          (k1 .before .votes-in2 .ensures) (chosen-one _ _ _ al (k1 .symbol2 .ensures))
+          (chosen-one _ _ _ al (c .symbol3 .ensures)),
     )
 
 pub candidate-4-spec : {M : Type 1} → statement M

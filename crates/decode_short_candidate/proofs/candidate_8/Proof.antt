@@ -33,18 +33,18 @@ three-requires-4 c κs = search needs
 returns : tie.Need-returns
 unfolding laneBit
 returns c =
-    let c1 = c .before in
-    let c2 = c1 .before in
-    let c3 = c2 .before in
-    let c4 = c3 .before in
-    let c5 = c4 .before in
-    let c6 = c5 .before in
-    let c7 = c6 .before in
-    let c8 = c7 .before in (
+    let left = c .before in
+    let k2 = left .before in
+    let k1 = k2 .before .before in
+    let k0 = k1 .before .before in
+    let s = k0 .before .before in (
       refl,
       refl,
-      candidate-8 (c8 .args .q) (c8 .args .x) (c7 .votes-in .result) (c5 .votes-in2 .result) (c3 .votes-in3 .result) (c1 .rest .result) (c .three4 .result) (c6 .three .result) (c4 .three2 .result) (c2 .three3 .result) (c8 .pre .0) (c8 .pre .1)
-          (c7 .votes-in .ensures) (c6 .three .ensures) (c5 .votes-in2 .ensures) (c4 .three2 .ensures) (c3 .votes-in3 .ensures) (c2 .three3 .ensures) (c1 .rest .ensures) (c .three4 .ensures),
+      candidate-8 (s .args .q) (s .args .x) _ _ _ _ _ _ _ _ (s .pre .0) (s .pre .1)
+          (k0 .before .votes-in .ensures) (k0 .three .ensures)
+          (k1 .before .votes-in2 .ensures) (k1 .three2 .ensures)
+          (k2 .before .votes-in3 .ensures) (k2 .three3 .ensures)
+          (left .rest .ensures) (c .three4 .ensures),
     )
 
 pub candidate-8-spec : {M : Type 1} → statement M

@@ -1,7 +1,6 @@
 -- `seven` meets its contract.
-use mathlib.Core.Path.{ap, ap₂, _∙_}
 use Rattle.swar_majority.specs.Most.{sevenOf}
-use Rattle.decode_short_candidate.proofs.ChoiceLaws.{chosen-most, chosen-by, lanes-fit}
+use Rattle.decode_short_candidate.proofs.ChoiceLaws.{chosen-most, lanes-same, chosen-by, lanes-fit}
 use borrow.Author.Needs.{needs}
 use Rattle.decode_short_candidate.proofs.seven.Statement.{statement}
 use Rattle.decode_short_candidate.proofs.seven.Tie as tie
@@ -16,11 +15,7 @@ apart-requires-3 : tie.Need-apart-requires-3
 apart-requires-3 c κs = search needs
 
 most-of-7-requires : tie.Need-most-of-7-requires
-most-of-7-requires c κs =
-    let b = c .before in
-    let a = b .before in
-    let s = a .before in
-    lanes-fit (s .args .i) (s .args .j) (s .args .k) _ _ _ (s .pre .1) (s .pre .2) (s .pre .3) (a .apart .ensures .0) (b .apart2 .ensures .0) (c .apart3 .ensures .0)
+most-of-7-requires c κs = search (needs, lanes-fit)
 
 symbol-requires : tie.Need-symbol-requires
 symbol-requires c κs = search needs
@@ -32,7 +27,9 @@ returns c =
     let b = d .before in
     let a = b .before in
     let s = a .before in
-    chosen-by _ _ _ _ _ (ap₂ (λ x y. sevenOf (s .args .d) x y (d .apart3 .result)) (a .apart .ensures .0) (b .apart2 .ensures .0) ∙ ap (sevenOf (s .args .d) _ _) (d .apart3 .ensures .0)) (chosen-most _ _ _ (m .most-of-7 .result) (c .symbol .result) (s .pre .0) (m .most-of-7 .ensures) (c .symbol .ensures))
+    let f = sevenOf (s .args .d) in
+    chosen-by _ _ _ _ _ (lanes-same f (a .apart .ensures .0) (b .apart2 .ensures .0) (d .apart3 .ensures .0))
+    (chosen-most _ _ _ _ _ (s .pre .0) (m .most-of-7 .ensures) (c .symbol .ensures))
 
 pub seven-spec : {M : Type 1} → statement M
 seven-spec =

@@ -24,7 +24,8 @@ returns c =
     let b = m .before in
     let a = b .before in
     let s = a .before in
-    chosen-by _ _ _ _ _ (ap₂ (threeOf (s .args .d)) (a .apart .ensures .0) (b .apart2 .ensures .0)) (chosen-most _ _ _ (m .most-of-3 .result) (c .symbol .result) (s .pre .0) (m .most-of-3 .ensures) (c .symbol .ensures))
+    let lanes = ap₂ (threeOf (s .args .d)) (a .apart .ensures .0) (b .apart2 .ensures .0) in
+    chosen-by _ _ _ _ _ lanes (chosen-most _ _ _ _ _ (s .pre .0) (m .most-of-3 .ensures) (c .symbol .ensures))
 
 pub three-spec : {M : Type 1} → statement M
 three-spec =

@@ -1,6 +1,5 @@
 -- `code` meets its contract: one coefficient after the other, each where its bit of the place is 1.
 use mathlib.Core.Path.{refl}
-use borrow.Author.Needs.{needs}
 use Rattle.code_theory.specs.Sum.{every}
 use Rattle.swar_theory.specs.Digit.{digit}
 use Rattle.swar_lanes.proofs.LaneLaws.{none-below}
@@ -32,8 +31,12 @@ plus-requires-4 c κs =
 
 returns : tie.Need-returns
 returns c =
-    let s = c .before .before .before .before in
-    code-is (s .args .q) (s .args .c0) (s .args .c1) (s .args .c2) (s .args .c3) (c .before .before .before .plus .result) (c .before .before .plus2 .result) (c .before .plus3 .result) (c .plus4 .result) (c .before .before .before .plus .ensures) (c .before .before .plus2 .ensures) (c .before .plus3 .ensures) (c .plus4 .ensures)
+    let p3 = c .before in
+    let p2 = p3 .before in
+    let p1 = p2 .before in
+    let s = p1 .before in
+    code-is (s .args .q) (s .args .c0) (s .args .c1) (s .args .c2) (s .args .c3) _ _ _ (c .plus4 .result)
+    (p1 .plus .ensures) (p2 .plus2 .ensures) (p3 .plus3 .ensures) (c .plus4 .ensures)
 
 pub code-spec : {M : Type 1} → statement M
 code-spec = tie.close (tie.spec plus-requires plus-requires-2 plus-requires-3 plus-requires-4 returns)

@@ -1,7 +1,12 @@
--- `errors` meets its contract: the code is taken out first, then the constant.
+-- `errors` meets its contract: the code is subtracted first, then the constant.
+use mathlib.Core.Path.{refl}
+use native.Mathlib.Omega.{arith}
+use Rattle.code_theory.specs.Sum.{every}
+use Rattle.code_theory.proofs.WordLaws.{bounds}
+use Rattle.swar_theory.specs.Digit.{digit}
 use borrow.Author.Needs.{needs}
 use Rattle.swar_lanes.proofs.LaneLaws.{less-below}
-use Rattle.decode_short_errors.proofs.PlaceLaws.{constant-below, constant-lt, errors-are}
+use Rattle.decode_short_errors.proofs.PlaceLaws.{part-below, mask-is, errors-are}
 use Rattle.decode_short_errors.proofs.errors.Statement.{statement}
 use Rattle.decode_short_errors.proofs.errors.Tie as tie
 
@@ -9,12 +14,13 @@ less-requires : tie.Need-less-requires
 less-requires c κs = search needs
 
 mul-less : tie.Need-mul-less
-mul-less c = record { fits = constant-lt (c .before .args .q) (c .before .args .a) (c .before .pre .0) (c .before .pre .3) }
+mul-less c = record { fits = omega (arith, bounds (c .before .args .q) (c .before .pre .0), c .before .pre .3) }
 
 less-requires-2 : tie.Need-less-requires-2
+unfolding every digit
 less-requires-2 c κs =
     let s = c .before in
-    (s .pre .0, less-below (s .args .q) _ _ (c .less .result) (s .pre .0) (c .less .ensures), constant-below (s .args .q) (s .args .a) (s .pre .0) (s .pre .3))
+    (s .pre .0, less-below (s .args .q) _ _ (c .less .result) (s .pre .0) (c .less .ensures), part-below (s .args .q) (s .args .a) _ (s .pre .0) (s .pre .3) (omega arith) (mask-is _ refl))
 
 returns : tie.Need-returns
 returns c =

@@ -1,7 +1,8 @@
 -- `plus` meets its contract: no lane carries into the next.
 use native.Mathlib.Omega.{arith}
 use borrow.Author.Needs.{needs}
-use Rattle.decode_short_errors.proofs.PlaceLaws.{part-lt, plus-lt, few-of, plus-is}
+use Rattle.code_theory.proofs.WordLaws.{bounds}
+use Rattle.decode_short_errors.proofs.PlaceLaws.{part-lt, plus-lt, plus-is}
 use Rattle.decode_short_errors.proofs.plus.Statement.{statement}
 use Rattle.decode_short_errors.proofs.plus.Tie as tie
 
@@ -15,7 +16,7 @@ sub-result : tie.Need-sub-result
 sub-result c = search needs
 
 mul-result-2 : tie.Need-mul-result-2
-mul-result-2 c = record { fits = omega (arith, few-of (c .args .q) (c .args .c) (c .args .a) (c .args .marks) (c .pre .0) (c .fits .c .fits) (c .fits .marks .fits) (c .pre .1) (c .pre .2) (c .pre .3)) }
+mul-result-2 c = record { fits = omega (arith, bounds (c .args .q) (c .pre .0)) }
 
 returns : tie.Need-returns
 returns c = plus-is (c .args .q) (c .args .c) (c .args .a) (c .args .marks) (c .pre .0) (c .fits .c .fits) (c .fits .marks .fits) (c .pre .1) (c .pre .2) (c .pre .3)

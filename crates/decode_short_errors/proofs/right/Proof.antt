@@ -1,6 +1,5 @@
 -- `right` meets its contract: the lanes without an error are marked, and added.
 use native.Mathlib.Omega.{arith}
-use borrow.Author.Needs.{needs}
 use Rattle.decode_short_errors.proofs.PlaceLaws.{equal-le, zeros-are}
 use Rattle.decode_short_errors.proofs.right.Statement.{statement}
 use Rattle.decode_short_errors.proofs.right.Tie as tie

@@ -1,6 +1,7 @@
 -- `equal` meets its contract: no lane carries into the next.
+use native.Mathlib.Omega.{arith}
 use borrow.Author.Needs.{needs}
-use Rattle.decode_short_lead.proofs.EqualLaws.{raised-lt, raised-le, equal-is}
+use Rattle.decode_short_lead.proofs.EqualLaws.{xored-le, equal-is}
 use Rattle.decode_short_lead.proofs.equal.Statement.{statement}
 use Rattle.decode_short_lead.proofs.equal.Tie as tie
 
@@ -8,10 +9,10 @@ mul-result : tie.Need-mul-result
 mul-result c = search needs
 
 add-result : tie.Need-add-result
-add-result c = record { fits = raised-lt (c .args .d) (c .args .v) (c .args .c) (c .fits .d .fits) (c .pre .0) (c .pre .1) (c .pre .2) }
+add-result c = record { fits = omega (arith, xored-le (c .args .d) (c .args .v) (c .args .c) (c .fits .d .fits) (c .pre .0) (c .pre .1) (c .pre .2)) }
 
 sub-result : tie.Need-sub-result
-sub-result c = raised-le (c .args .d) (c .args .v) (c .args .c) (c .fits .d .fits) (c .pre .0) (c .pre .1) (c .pre .2)
+sub-result c = omega (arith, xored-le (c .args .d) (c .args .v) (c .args .c) (c .fits .d .fits) (c .pre .0) (c .pre .1) (c .pre .2))
 
 returns : tie.Need-returns
 returns c = equal-is (c .args .d) (c .args .v) (c .args .c) (c .fits .d .fits) (c .pre .0) (c .pre .1) (c .pre .2)

@@ -1,8 +1,6 @@
--- `lead` meets its contract, in either way.
-use Prim.Native.Nat.{_<_}
+-- `lead` meets its contract, for q 2 and for the others.
 use mathlib.Core.Path.{_≡_, _∙_}
 use native.Mathlib.Omega.{arith}
-use Rattle.swar_lanes.specs.Lane.{Below}
 use Rattle.decode_short_lead.specs.Lead.{lanesEqual}
 use Rattle.decode_short_lead.proofs.LeadLaws.{one-sum, one-other}
 use Rattle.decode_short_lead.proofs.lead.Statement.{statement}

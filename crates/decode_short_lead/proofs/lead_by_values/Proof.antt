@@ -1,4 +1,4 @@
--- `lead_by_values` meets its contract. The loop's invariant: bad are the votes for the values from 1 to v - 1, next the most for one of them.
+-- `lead_by_values` meets its contract. The loop's invariant: bad and next are the sum and the maximum of the votes for 1 to v - 1.
 use Prim.Native.Nat.{_≤_, _-_}
 use mathlib.Core.Path.{_≡_, refl}
 use native.Mathlib.Omega.{arith}
@@ -33,7 +33,7 @@ add-bad : tie.Need-add-bad Inv-loop μ-loop
 add-bad c =
     let s = c .before .before .before in
     let l = c .before .before .loop in
-    let few = turn-fits (s .args .q) (l .v) (l .bad) (l .next) (lanesEqual (s .args .x)) (l .inv .2) (l .inv .3) (c .votes .result) 15 (l .inv .0) (omega arith) (c .votes .ensures) (s .pre .3) in
+    let few = turn-fits (s .args .q) (l .v) _ _ (lanesEqual (s .args .x)) (l .inv .2) (l .inv .3) _ 15 (l .inv .0) (omega arith) (c .votes .ensures) (s .pre .3) in
     record { fits = omega (arith, few) }
 
 larger-requires : tie.Need-larger-requires Inv-loop μ-loop
@@ -49,8 +49,12 @@ loop-again : tie.Need-loop-again Inv-loop μ-loop
 loop-again c =
     let s = c .before .before .before .before in
     let l = c .before .before .before .loop in
-    let f = lanesEqual (s .args .x) in
-    (omega arith, omega arith, turn-sum (s .args .q) (l .v) (l .bad) (l .next) f (l .inv .2) (l .inv .3) _ (l .inv .0) (c .before .votes .ensures), turn-max (s .args .q) (l .v) (l .bad) (l .next) f (l .inv .2) (l .inv .3) _ _ (l .inv .0) (c .before .votes .ensures) (c .larger .ensures))
+    let f = lanesEqual (s .args .x) in (
+      omega arith,
+      omega arith,
+      turn-sum (s .args .q) (l .v) _ _ f (l .inv .2) (l .inv .3) _ (l .inv .0) (c .before .votes .ensures),
+      turn-max (s .args .q) (l .v) _ _ f (l .inv .2) (l .inv .3) _ _ (l .inv .0) (c .before .votes .ensures) (c .larger .ensures),
+    )
 
 sub-result : tie.Need-sub-result Inv-loop μ-loop
 sub-result c =

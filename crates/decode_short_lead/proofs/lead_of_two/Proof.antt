@@ -1,4 +1,4 @@
--- `lead_of_two` meets its contract: the wrong votes are the most for one wrong value too.
+-- `lead_of_two` meets its contract: all wrong votes are for the one wrong value.
 use mathlib.Core.Path.{ap, _∙_}
 use native.Mathlib.Omega.{arith}
 use Prim.Native.Nat.{_-_}

@@ -1,4 +1,4 @@
--- `votes` meets its contract: 1 in every lane that is v, and the lanes added.
+-- `votes` meets its contract: every lane that is v has 1, and the lanes are added.
 use mathlib.Core.Path.{_∙_}
 use native.Mathlib.Omega.{arith}
 use Rattle.decode_short_lead.proofs.EqualLaws.{every-lane, equal-sum}

@@ -1,4 +1,4 @@
--- `margin_16` meets its contract: a number without errors casts no wrong vote.
+-- `margin_16` meets its contract: a number without errors has no wrong vote.
 use native.Mathlib.Omega.{arith}
 use Rattle.decode_short_margin.proofs.LeastLaws.{errors-16, margin-16-is}
 use Rattle.decode_short_margin.proofs.margin_16.Statement.{statement}

@@ -1,8 +1,7 @@
--- `further` meets its contract: q divides the mask and one.
+-- `further` meets its contract: an `and` with q - 1 leaves the remainder by q.
 use Prim.Native.Nat.{_+_}
 use native.Mathlib.Omega.{arith}
 use native.Mathlib.Nat.{mod-lt}
-use mathlib.Core.Path.{_≡_, _∙_}
 use Rattle.code_theory.proofs.QuestionLaws.{alphabet, alphabet-bounds, alphabet-positive, mask-mod}
 use borrow.Author.Needs.{needs}
 use Rattle.decode_short_verify.proofs.further.Statement.{statement}

@@ -1,5 +1,4 @@
--- `load_4` meets its contract: four bytes, and nothing past them.
-use native.Mathlib.Omega.{arith}
+-- `load_4` meets its contract: four bytes have the symbols, and the others are 0.
 use Rattle.decode_short_verify.proofs.PlaceLaws.{held-four}
 use borrow.Author.Needs.{needs}
 use Rattle.decode_short_verify.proofs.load_4.Statement.{statement}

@@ -1,5 +1,4 @@
--- `load_8` meets its contract: eight bytes, and nothing past them.
-use native.Mathlib.Omega.{arith}
+-- `load_8` meets its contract: eight bytes have the symbols.
 use Rattle.decode_short_verify.proofs.PlaceLaws.{held-eight}
 use borrow.Author.Needs.{needs}
 use Rattle.decode_short_verify.proofs.load_8.Statement.{statement}

@@ -1,7 +1,6 @@
--- `wrong_16` meets its contract: the places without an error, eight and eight.
+-- `wrong_16` meets its contract: the places without an error are counted eight by eight.
 use native.Mathlib.Omega.{arith}
 use mathlib.Core.Path.{refl}
-use borrow.Author.Needs.{needs}
 use Rattle.code_theory.specs.Sum.{sum, every}
 use Rattle.swar_theory.specs.Digit.{digit}
 use Rattle.decode_short_verify.proofs.VerifyLaws.{marked, right-le, wrong-16}

@@ -1,4 +1,4 @@
--- `write_2_or_3` meets its contract: in each case m is the number that is written out, and any other is below 2.
+-- `write_2_or_3` meets its contract: in each case m is the literal, and any other m is below 2.
 use mathlib.Core.Path.{refl}
 use native.Mathlib.Omega.{arith}
 use borrow.Author.Needs.{needs}

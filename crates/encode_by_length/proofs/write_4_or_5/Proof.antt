@@ -1,4 +1,4 @@
--- `write_4_or_5` meets its contract: in each case m is the number that is written out.
+-- `write_4_or_5` meets its contract: in each case m is the literal.
 use mathlib.Core.Path.{refl}
 use native.Mathlib.Omega.{arith}
 use borrow.Author.Needs.{needs}

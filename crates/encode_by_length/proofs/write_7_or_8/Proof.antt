@@ -1,4 +1,4 @@
--- `write_7_or_8` meets its contract: in each case m is the number that is written out, and any other is above 8.
+-- `write_7_or_8` meets its contract: in each case m is the literal, and any other m is above 8.
 use mathlib.Core.Path.{refl}
 use native.Mathlib.Omega.{arith}
 use borrow.Author.Needs.{needs}

@@ -1,4 +1,4 @@
--- `write_any` meets its contract, by the case that it was asked.
+-- `write_any` meets its contract, in each case of m.
 use mathlib.Core.Path.{_≡_, refl, sym, _∙_}
 use mathlib.Core.Bool.{true}
 use native.Mathlib.Omega.{arith}

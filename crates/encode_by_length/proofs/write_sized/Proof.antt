@@ -11,14 +11,14 @@ use Rattle.encode_by_length.proofs.EncodeLaws.{size-no, below-no, word-
 use Rattle.encode_by_length.proofs.write_sized.Statement.{statement}
 use Rattle.encode_by_length.proofs.write_sized.Tie as tie
 
-size : (c : tie.Else1) → let s = c .before .before .before .args in isMessageSize (s .m) (s .message .now) ≡ true
+size : (c : tie.Else1) → let s = c .before .before .before in isMessageSize (s .args .m) (s .args .message .now) ≡ true
 size c = message-yes _ _ (c .if1 .left)
 
-below : (c : tie.Else2) → let s = c .before .before .before .before .before .args in allBelow (s .q) (s .message .now) ≡ true
+below : (c : tie.Else2) → let s = c .before .before .before .before .before in allBelow (s .args .q) (s .args .message .now) ≡ true
 below c = sym (c .before .message-below .ensures) ∙ not-false _ (c .if2 .left)
 
--- every question has a yes
-yes : (c : tie.Else3) → let s = c .before .before .before .before .before .before .before .args in encodeRefusal (s .q) (s .m) (s .message .now) (s .word .now) ≡ 0
+-- every question is answered yes
+yes : (c : tie.Else3) → let s = c .before .before .before .before .before .before .before in encodeRefusal (s .args .q) (s .args .m) (s .args .message .now) (s .args .word .now) ≡ 0
 yes c =
     let s = c .before .before .before .before .before .before .before in
     let e = c .before .before in

@@ -1,4 +1,4 @@
--- `first_eight` meets its contract: the four of two coefficients, and above them the four with the third.
+-- `first_eight` meets its contract: the first four places, and above them the same four plus a_2.
 use native.Mathlib.Omega.{arith}
 use Rattle.encode_codeword.proofs.Lanes.{eight-code}
 use borrow.Author.Needs.{needs}

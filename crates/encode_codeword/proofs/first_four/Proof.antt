@@ -1,4 +1,4 @@
--- `first_four` meets its contract: each product puts a symbol into the places that it is added at.
+-- `first_four` meets its contract: each product holds a symbol in the places that it is added to.
 use native.Mathlib.Omega.{arith}
 use Rattle.encode_codeword.proofs.Lanes.{four-code}
 use borrow.Author.Needs.{needs}

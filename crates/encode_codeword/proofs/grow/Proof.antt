@@ -1,4 +1,4 @@
--- `grow` meets its contract: in each case the length is that of the word so far.
+-- `grow` meets its contract: in each case the length that is doubled is that of the word so far.
 use mathlib.Core.Path.{refl}
 use native.Mathlib.Omega.{arith}
 use Rattle.encode_codeword.proofs.Doubling.{grow-asks, grow-gives, chunks-ask}
@@ -12,8 +12,9 @@ shared-slice-read-double c = search needs
 double-requires : tie.Need-double-requires
 double-requires c κs =
     let s = c .before .before .before .before .before in
-    chunks-ask _ _ 1 (s .args .word .now)
-    (grow-asks (s .args .q) (s .args .k) 3 8 (s .args .message .now) (s .args .word .now) (omega (arith, s .pre .1 .variables)) refl (s .pre .2) _ (s .pre .1 .below _ (omega arith)) (s .pre .1))
+    let f = s .pre .1 in
+    let w = s .args .word .now in
+    chunks-ask _ _ 1 w (grow-asks _ (s .args .k) 3 8 (s .args .message .now) w (omega (arith, f .variables)) refl (s .pre .2) _ (f .below _ (omega arith)) f)
 
 shared-slice-read-double-2 : tie.Need-shared-slice-read-double-2
 shared-slice-read-double-2 c = search needs
@@ -21,8 +22,9 @@ shared-slice-read-double-2 c = search needs
 double-requires-2 : tie.Need-double-requires-2
 double-requires-2 c κs =
     let s = c .before .before .before .before .before in
-    chunks-ask _ _ 2 (s .args .word .now)
-    (grow-asks (s .args .q) (s .args .k) 4 16 (s .args .message .now) (s .args .word .now) (omega (arith, s .pre .1 .variables)) refl (s .pre .2) _ (s .pre .1 .below _ (omega arith)) (s .pre .1))
+    let f = s .pre .1 in
+    let w = s .args .word .now in
+    chunks-ask _ _ 2 w (grow-asks _ (s .args .k) 4 16 (s .args .message .now) w (omega (arith, f .variables)) refl (s .pre .2) _ (f .below _ (omega arith)) f)
 
 shared-slice-read-double-3 : tie.Need-shared-slice-read-double-3
 shared-slice-read-double-3 c = search needs
@@ -30,8 +32,9 @@ shared-slice-read-double-3 c = search needs
 double-requires-3 : tie.Need-double-requires-3
 double-requires-3 c κs =
     let s = c .before .before .before .before .before in
-    chunks-ask _ _ 4 (s .args .word .now)
-    (grow-asks (s .args .q) (s .args .k) 5 32 (s .args .message .now) (s .args .word .now) (omega (arith, s .pre .1 .variables)) refl (s .pre .2) _ (s .pre .1 .below _ (omega arith)) (s .pre .1))
+    let f = s .pre .1 in
+    let w = s .args .word .now in
+    chunks-ask _ _ 4 w (grow-asks _ (s .args .k) 5 32 (s .args .message .now) w (omega (arith, f .variables)) refl (s .pre .2) _ (f .below _ (omega arith)) f)
 
 shared-slice-read-double-each : tie.Need-shared-slice-read-double-each
 shared-slice-read-double-each c = search needs
@@ -39,7 +42,8 @@ shared-slice-read-double-each c = search needs
 double-each-requires : tie.Need-double-each-requires
 double-each-requires c κs =
     let s = c .before .before .before .before .before in
-    grow-asks (s .args .q) (s .args .k) 6 64 (s .args .message .now) (s .args .word .now) (omega (arith, s .pre .1 .variables)) refl (s .pre .2) _ (s .pre .1 .below _ (omega arith)) (s .pre .1)
+    let f = s .pre .1 in
+    grow-asks _ (s .args .k) 6 64 (s .args .message .now) (s .args .word .now) (omega (arith, f .variables)) refl (s .pre .2) _ (f .below _ (omega arith)) f
 
 shared-slice-read-double-each-2 : tie.Need-shared-slice-read-double-each-2
 shared-slice-read-double-each-2 c = search needs
@@ -47,7 +51,8 @@ shared-slice-read-double-each-2 c = search needs
 double-each-requires-2 : tie.Need-double-each-requires-2
 double-each-requires-2 c κs =
     let s = c .before .before .before .before .before in
-    grow-asks (s .args .q) (s .args .k) 7 128 (s .args .message .now) (s .args .word .now) (omega (arith, s .pre .1 .variables)) refl (s .pre .2) _ (s .pre .1 .below _ (omega arith)) (s .pre .1)
+    let f = s .pre .1 in
+    grow-asks _ (s .args .k) 7 128 (s .args .message .now) (s .args .word .now) (omega (arith, f .variables)) refl (s .pre .2) _ (f .below _ (omega arith)) f
 
 same-length : tie.Need-same-length
 same-length c = search needs

@@ -1,4 +1,4 @@
--- `write` meets its contract: in each case m is that of the word that is written.
+-- `write` meets its contract: in each case m is the number of coefficients that are written.
 use mathlib.Core.Path.{refl}
 use native.Mathlib.Omega.{arith}
 use Rattle.encode_codeword.proofs.Doubling.{fits-less, written-all}

@@ -1,4 +1,4 @@
--- `write_64` meets its contract: the word of five coefficients, and one more
+-- `write_64` meets its contract: the word of five coefficients is written first, and then doubled.
 use mathlib.Core.Path.{refl}
 use native.Mathlib.Omega.{arith}
 use Rattle.encode_codeword.proofs.Doubling.{fits-less, written-more}

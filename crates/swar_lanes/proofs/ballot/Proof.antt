@@ -1,6 +1,6 @@
 -- `ballot` meets its contract.
 use native.Mathlib.Omega.{arith}
-use Rattle.swar_lanes.proofs.BallotLaws.{number-below, near-ballot}
+use Rattle.swar_lanes.proofs.BallotLaws.{number-below, within-ballot}
 use borrow.Author.Needs.{needs}
 use Rattle.swar_lanes.proofs.ballot.Statement.{statement}
 use Rattle.swar_lanes.proofs.ballot.Tie as tie
@@ -22,13 +22,19 @@ number-requires-2 c κs = search needs
 
 votes-within-requires : tie.Need-votes-within-requires
 votes-within-requires c κs =
-    let s = c .before .before .before in
-    (s .pre .alphabet, number-below _ (s .args .x .now) _ _ (s .pre .symbols) (omega (arith, s .pre .few)) (c .before .number .ensures), number-below _ (s .args .x .now) _ _ (s .pre .symbols) (omega (arith, s .pre .few)) (c .number2 .ensures), omega arith)
+    let s = c .before .before .before in (
+      s .pre .alphabet,
+      number-below _ (s .args .x .now) _ _ (s .pre .symbols) (omega (arith, s .pre .few)) (c .before .number .ensures),
+      number-below _ (s .args .x .now) _ _ (s .pre .symbols) (omega (arith, s .pre .few)) (c .number2 .ensures),
+      omega arith,
+    )
 
 returns : tie.Need-returns
 returns c =
-    let s = c .before .before .before .before in
-    (near-ballot (s .args .q) (s .args .k) (s .args .j) (s .args .x .now) _ _ _ (omega arith) (c .before .before .number .ensures) (c .before .number2 .ensures) (c .votes-within .ensures .0), c .votes-within .ensures .1)
+    let b = c .before in
+    let s = b .before .before .before in
+    let v = c .votes-within .ensures in
+    (within-ballot (s .args .q) (s .args .k) (s .args .j) (s .args .x .now) _ _ _ (omega arith) (b .before .number .ensures) (b .number2 .ensures) (v .0), v .1)
 
 votes-across-requires : tie.Need-votes-across-requires
 votes-across-requires c κs = search needs

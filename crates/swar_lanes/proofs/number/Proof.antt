@@ -1,5 +1,4 @@
 -- `number` meets its contract.
-use native.Mathlib.Omega.{arith}
 use borrow.Author.Needs.{needs}
 use Rattle.swar_lanes.proofs.number.Statement.{statement}
 use Rattle.swar_lanes.proofs.number.Tie as tie

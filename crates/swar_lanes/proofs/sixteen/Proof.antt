@@ -22,7 +22,7 @@ add-eight c = search needs
 eight-requires-2 : tie.Need-eight-requires-2
 eight-requires-2 c κs = search needs
 
--- the bytes of both fit a lane
+-- the bytes of both numbers fit a lane
 first : (c : tie.After-eight2) (l : ℕ) → l < 8 → digit 8 (c .before .eight .result) l < 16
 first c = low-bytes (c .before .before .before .args .word .now) _ _ (c .before .eight .ensures) (c .before .before .before .pre .2) (λ l h. omega arith)
 

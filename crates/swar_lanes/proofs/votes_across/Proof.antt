@@ -1,7 +1,7 @@
 -- `votes_across` meets its contract.
 use Prim.Native.Nat.{_+_, _<_}
 use native.Mathlib.Omega.{arith}
-use Rattle.swar_lanes.proofs.BallotLaws.{number-below, far-ballot}
+use Rattle.swar_lanes.proofs.BallotLaws.{number-below, across-ballot}
 use Rattle.swar_lanes.proofs.LaneLaws.{less-below}
 use borrow.Author.Needs.{needs}
 use Rattle.swar_lanes.proofs.votes_across.Statement.{statement}
@@ -19,7 +19,7 @@ sub-pow2 c = search needs
 pow2-requires : tie.Need-pow2-requires
 pow2-requires c κs = search needs
 
--- the partner's number is one of the sixteen
+-- the partners stand in one of the sixteen numbers
 next : (c : tie.After-pow2) → c .before .nth-clear .result + c .pow2 .result < 16
 next c =
     let s = c .before .before in
@@ -37,13 +37,23 @@ number-requires-2 c κs = omega (arith, next (c .before))
 less-requires : tie.Need-less-requires
 less-requires c κs =
     let s = c .before .before .before .before in
-    let n = next (c .before .before) in
-    (s .pre .0 .alphabet, number-below (s .args .q) (s .args .x .now) _ _ (s .pre .0 .symbols) n (c .before .number .ensures), number-below (s .args .q) (s .args .x .now) (c .before .before .before .nth-clear .result) _ (s .pre .0 .symbols) (omega arith) (c .number2 .ensures))
+    let i = c .before .before .before .nth-clear .result in
+    let n = next (c .before .before) in (
+      s .pre .0 .alphabet,
+      number-below (s .args .q) (s .args .x .now) _ _ (s .pre .0 .symbols) n (c .before .number .ensures),
+      number-below (s .args .q) (s .args .x .now) i _ (s .pre .0 .symbols) (omega arith) (c .number2 .ensures),
+    )
 
 returns : tie.Need-returns
 returns c =
-    let s = c .before .before .before .before .before in
-    (far-ballot (s .args .q) (s .args .k) (s .args .j) (s .args .x .now) (c .before .before .before .before .nth-clear .result) _ _ _ _ (s .pre .1) (c .before .before .before .before .nth-clear .ensures) (c .before .before .before .pow2 .ensures) (c .before .before .number .ensures) (c .before .number2 .ensures) (c .less .ensures), less-below (s .args .q) _ _ _ (s .pre .0 .alphabet) (c .less .ensures))
+    let b = c .before in
+    let p = b .before .before in
+    let i = p .before in
+    let s = i .before in (
+      across-ballot (s .args .q) (s .args .k) (s .args .j) (s .args .x .now) (i .nth-clear .result) _ _ _ _ (s .pre .1)
+          (i .nth-clear .ensures) (p .pow2 .ensures) (b .before .number .ensures) (b .number2 .ensures) (c .less .ensures),
+      less-below (s .args .q) _ _ _ (s .pre .0 .alphabet) (c .less .ensures),
+    )
 
 pub votes-across-spec : {M : Type 1} → statement M
 votes-across-spec =

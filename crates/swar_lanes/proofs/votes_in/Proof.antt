@@ -22,7 +22,7 @@ returns c =
     let l = b .before in
     let p = l .before in
     let s = p .before in
-    votes-in-is (s .args .q) (s .args .k) (s .args .x) (p .partners .result) (b .lane-bit .result) (c .clear .result) (l .less .result) (b .lane-bit .ensures .0) (p .partners .ensures) (c .clear .ensures) (l .less .ensures)
+    votes-in-is (s .args .q) (s .args .k) (s .args .x) _ _ _ _ (b .lane-bit .ensures .0) (p .partners .ensures) (c .clear .ensures) (l .less .ensures)
 
 pub votes-in-spec : {M : Type 1} → statement M
 votes-in-spec = tie.close (tie.spec partners-requires less-requires lane-bit-requires clear-requires returns)

@@ -1,4 +1,4 @@
--- `seven` meets its contract. The states behind the last one are numbered backward.
+-- `seven` meets its contract. In `returns`, c1 is the state before c, c2 the state before c1, and so on.
 use borrow.Author.Needs.{needs}
 use Rattle.swar_majority.proofs.BitLaws.{counted}
 use Rattle.swar_majority.proofs.seven.Statement.{statement}
@@ -68,7 +68,9 @@ returns c =
     let c12 = c11 .before in
     let c13 = c12 .before in
     let c14 = c13 .before in
-    counted (c14 .down .ensures) (c13 .down2 .ensures) (c12 .parity .ensures) (c11 .down3 .ensures) (c10 .down4 .ensures) (c9 .carry .ensures) (c8 .down5 .ensures) (c7 .down6 .ensures) (c6 .carry2 .ensures) (c5 .down7 .ensures) (c4 .parity2 .ensures) (c3 .down8 .ensures) (c2 .parity3 .ensures) (c1 .down9 .ensures) (c .carry3 .ensures)
+    counted (c14 .down .ensures) (c13 .down2 .ensures) (c12 .parity .ensures) (c11 .down3 .ensures) (c10 .down4 .ensures)
+    (c9 .carry .ensures) (c8 .down5 .ensures) (c7 .down6 .ensures) (c6 .carry2 .ensures) (c5 .down7 .ensures)
+    (c4 .parity2 .ensures) (c3 .down8 .ensures) (c2 .parity3 .ensures) (c1 .down9 .ensures) (c .carry3 .ensures)
 
 pub seven-spec : {M : Type 1} → statement M
 seven-spec =
