@@ -10,7 +10,7 @@ use lib.Dec.{eqb, ltb}
 use lib.ListN.{length, take, drop, length-append, drop-of-length-le}
 use Rattle.text_lines.specs.Ending.{lineLength}
 use Rattle.text_lines.proofs.EndingLaws.{line-step}
-use Rattle.text_chunks.specs.Chunks.{Reader, Progress, keep, step, stepText, fed, fedText, fedCount}
+use Rattle.text_chunks.specs.Chunks.{Reader, Progress, longer, step, stepText, fed, fedText, fedCount}
 use Rattle.text_chunks.proofs.StepLaws.{step-keep, text-keep}
 
 module _ {S : Type 0} (R : Reader S) where
@@ -76,21 +76,18 @@ module _ {S : Type 0} (R : Reader S) where
 
   -- the bytes before the first newline are all read
   pub count-within : (p : Progress S) (left : ℕ) (bytes : List ℕ) → p .over ≡ false → R .room ≤ left → fedCount R p left (take (lineLength bytes) bytes) ≡ lineLength bytes
-  unfolding lineLength fedCount
+  unfolding lineLength fedCount longer
   count-within p left [] o h = refl
   count-within p left (b ∷ bytes) o h =
-      subst (λ n. fedCount R p left (take n (b ∷ bytes)) ≡ n) (sym (line-step b bytes)) (by (eqb b 10) refl (count-within kept left bytes o h))
+      subst (λ n. fedCount R p left (take n (b ∷ bytes)) ≡ n) (sym (line-step b bytes)) (by (eqb b 10) refl (count-within (longer p b) left bytes o h))
     where
-      kept : Progress S
-      kept = record { state = p .state; part = keep (p .part) b; over = p .over }
-
-      by : (t : Bool) → eqb b 10 ≡ t → fedCount R kept left (take (lineLength bytes) bytes) ≡ lineLength bytes
+      by : (t : Bool) → eqb b 10 ≡ t → fedCount R (longer p b) left (take (lineLength bytes) bytes) ≡ lineLength bytes
           → fedCount R p left (take (cond t 0 (suc (lineLength bytes))) (b ∷ bytes)) ≡ cond t 0 (suc (lineLength bytes))
       by true e more = refl
       by false e more =
           let d = eqb-false b 10 e in
           count-next p left b (take (lineLength bytes) bytes) o h
           ∙ ap (λ q. suc (fedCount R q (left - length (stepText R p b)) (take (lineLength bytes) bytes))) (step-keep R p b o d)
-          ∙ ap (λ t. suc (fedCount R kept (left - length t) (take (lineLength bytes) bytes))) (text-keep R p b o d)
-          ∙ ap (λ k. suc (fedCount R kept k (take (lineLength bytes) bytes))) (sub-zero left)
+          ∙ ap (λ t. suc (fedCount R (longer p b) (left - length t) (take (lineLength bytes) bytes))) (text-keep R p b o d)
+          ∙ ap (λ k. suc (fedCount R (longer p b) k (take (lineLength bytes) bytes))) (sub-zero left)
           ∙ ap suc more

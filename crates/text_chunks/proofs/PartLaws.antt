@@ -14,7 +14,7 @@ use Rattle.text_buffer.proofs.PutLaws.{put-none, put-fits, Written, written-as,
 use Rattle.text_lines.specs.Line.{Line, readLine}
 use Rattle.text_lines.specs.Ending.{lineLength}
 use Rattle.text_lines.proofs.EndingLaws.{line-step, line-newline}
-use Rattle.text_chunks.specs.Chunks.{Reader, Progress, keep, keepAll, ended, step, stepText, fed, fedText, fedCount}
+use Rattle.text_chunks.specs.Chunks.{Reader, Progress, keepAll, longer, ended, step, stepText, fed, fedText, fedCount}
 use Rattle.text_chunks.specs.Parts.{within, Took}
 use Rattle.text_chunks.proofs.ChunkLaws.{fed-append, text-append, fed-next, text-next}
 use Rattle.text_chunks.proofs.StepLaws.{step-end, text-end, step-keep, text-keep}
@@ -34,27 +34,27 @@ remaining-length chunk i = ap length (remaining-drop chunk i) ∙ length-drop i 
 module _ {S : Type 0} (R : Reader S) where
   -- the bytes before the first newline are kept, and bring no text
   pub fed-within : (p : Progress S) (bytes : List ℕ) → p .over ≡ false → fed R p (take (lineLength bytes) bytes) ≡ within p (take (lineLength bytes) bytes)
-  unfolding fed within keepAll lineLength
+  unfolding fed within keepAll longer lineLength
   fed-within p [] o = refl
   fed-within p (b ∷ bytes) o =
       subst (λ n. fed R p (take n (b ∷ bytes)) ≡ within p (take n (b ∷ bytes))) (sym (line-step b bytes))
-      (by (eqb b 10) refl (fed-within (record { state = p .state; part = keep (p .part) b; over = p .over }) bytes o))
+      (by (eqb b 10) refl (fed-within (longer p b) bytes o))
     where
       by : (t : Bool) → eqb b 10 ≡ t
-          → fed R (record { state = p .state; part = keep (p .part) b; over = p .over }) (take (lineLength bytes) bytes)
-          ≡ within (record { state = p .state; part = keep (p .part) b; over = p .over }) (take (lineLength bytes) bytes)
+          → fed R (longer p b) (take (lineLength bytes) bytes)
+          ≡ within (longer p b) (take (lineLength bytes) bytes)
           → fed R p (take (cond t 0 (suc (lineLength bytes))) (b ∷ bytes)) ≡ within p (take (cond t 0 (suc (lineLength bytes))) (b ∷ bytes))
       by true e more = refl
       by false e more = ap (λ q. fed R q (take (lineLength bytes) bytes)) (step-keep R p b o (eqb-false b 10 e)) ∙ more
 
   pub text-within : (p : Progress S) (bytes : List ℕ) → p .over ≡ false → fedText R p (take (lineLength bytes) bytes) ≡ []
-  unfolding fedText lineLength
+  unfolding fedText longer lineLength
   text-within p [] o = refl
   text-within p (b ∷ bytes) o =
       subst (λ n. fedText R p (take n (b ∷ bytes)) ≡ []) (sym (line-step b bytes))
-      (by (eqb b 10) refl (text-within (record { state = p .state; part = keep (p .part) b; over = p .over }) bytes o))
+      (by (eqb b 10) refl (text-within (longer p b) bytes o))
     where
-      by : (t : Bool) → eqb b 10 ≡ t → fedText R (record { state = p .state; part = keep (p .part) b; over = p .over }) (take (lineLength bytes) bytes) ≡ []
+      by : (t : Bool) → eqb b 10 ≡ t → fedText R (longer p b) (take (lineLength bytes) bytes) ≡ []
           → fedText R p (take (cond t 0 (suc (lineLength bytes))) (b ∷ bytes)) ≡ []
       by true e more = refl
       by false e more =

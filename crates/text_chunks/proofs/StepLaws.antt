@@ -7,7 +7,7 @@ use native.Mathlib.Omega.{arith}
 use borrow.Author.Tests.{eq-eqb, ne-eqb}
 use lib.ListN.{length}
 use Rattle.text_lines.specs.Line.{readLine}
-use Rattle.text_chunks.specs.Chunks.{Reader, Progress, keep, ended, step, stepText, lastText, endText}
+use Rattle.text_chunks.specs.Chunks.{Reader, Progress, longer, ended, step, stepText, lastText, endText}
 
 module _ {S : Type 0} (R : Reader S) where
   -- a newline ends the line, any other byte is kept
@@ -19,7 +19,7 @@ module _ {S : Type 0} (R : Reader S) where
   unfolding stepText
   text-end p b o e = rw (o, eq-eqb b 10 e)
 
-  pub step-keep : (p : Progress S) (b : ℕ) → p .over ≡ false → (b ≡ 10 → ⊥) → step R p b ≡ record { state = p .state; part = keep (p .part) b; over = p .over }
+  pub step-keep : (p : Progress S) (b : ℕ) → p .over ≡ false → (b ≡ 10 → ⊥) → step R p b ≡ longer p b
   unfolding step
   step-keep p b o d = rw (o, ne-eqb b 10 d)
 

@@ -42,13 +42,17 @@ unfoldable pub keepAll : List ℕ → List ℕ → List ℕ
 keepAll part [] = part
 keepAll part (b ∷ bytes) = keepAll (keep part b) bytes
 
--- the end of the line
+-- after a byte within a line
+unfoldable pub longer : {S : Type 0} → Progress S → ℕ → Progress S
+longer p b = record { state = p .state; part = keep (p .part) b; over = p .over }
+
+-- after the newline that ends it
 unfoldable pub ended : {S : Type 0} → Reader S → Progress S → Progress S
 ended R p = record { state = R .next (p .state) (readLine (p .part)); part = []; over = R .ends (p .state) (readLine (p .part)) }
 
 -- after a byte, and the text that it brings: none once the reading has ended
 unfoldable pub step : {S : Type 0} → Reader S → Progress S → ℕ → Progress S
-step R p b = cond (p .over) p (cond (eqb b 10) (ended R p) (record { state = p .state; part = keep (p .part) b; over = p .over }))
+step R p b = cond (p .over) p (cond (eqb b 10) (ended R p) (longer p b))
 
 unfoldable pub stepText : {S : Type 0} → Reader S → Progress S → ℕ → List ℕ
 stepText R p b = cond (p .over) [] (cond (eqb b 10) (R .text (p .state) (readLine (p .part))) [])
