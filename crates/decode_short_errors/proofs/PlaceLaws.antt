@@ -26,7 +26,8 @@ use Rattle.decode_short_errors.specs.Places.{plain, zeroPlaces}
 part-le : (a d : ℕ) → d ≤ 1 → a * d ≤ a
 part-le a d h = omega (arith, mul-le-mul-left a h, mul-one a)
 
-module _ (q c a marks : ℕ) (al : isAlphabet q ≡ true) (hc : c < 18446744073709551616) (hm : marks < 18446744073709551616) (bc : Below q c) (ba : a < q) (mk : Mask marks) where
+-- a times a mask has a or 0 in each lane, which is below q
+module _ (q a marks : ℕ) (al : isAlphabet q ≡ true) (hm : marks < 18446744073709551616) (ba : a < q) (mk : Mask marks) where
   few : (2 ≤ q) × (q ≤ 8)
   few = alphabet-bounds q (alphabet q al)
 
@@ -39,24 +40,22 @@ module _ (q c a marks : ℕ) (al : isAlphabet q ≡ true) (hc : c < 184467440737
   part-lane : (t : ℕ) → t < 16 → digit 4 (a * marks) t ≡ a * digit 4 marks t
   part-lane = digit-times 4 16 a marks hm part-fits
 
-  fits : (t : ℕ) → t < 16 → digit 4 c t + digit 4 (a * marks) t < 16
-  fits t h = omega (arith, part-lane t h, part-le a (digit 4 marks t) (mk t h), bc t h, few)
+  pub part-below : Below q (a * marks)
+  part-below t h = omega (arith, part-lane t h, part-le a (digit 4 marks t) (mk t h))
 
-  pub plus-lt : c + a * marks < 18446744073709551616
-  plus-lt = add-lt 4 16 c (a * marks) hc part-lt fits
+  -- the lanes of c plus a in the marked lanes, modulo q
+  module _ (c : ℕ) (hc : c < 18446744073709551616) (bc : Below q c) where
+    fits : (t : ℕ) → t < 16 → digit 4 c t + digit 4 (a * marks) t < 16
+    fits t h = omega (arith, part-below t h, bc t h, few)
 
-  pub plus-is : Lanes (bitAnd (c + a * marks) ((q - 1) * 0x1111_1111_1111_1111)) (λ t. (digit 4 c t + a * digit 4 marks t) % q)
-  plus-is t h =
-      digit-and 4 (c + a * marks) ((q - 1) * 0x1111_1111_1111_1111) t
-      ∙ ap₂ bitAnd (digit-add 4 16 c (a * marks) hc part-lt fits t h ∙ ap (λ z. digit 4 c t + z) (part-lane t h)) (mask-lane q al t h)
-      ∙ mask-mod q _ (alphabet q al)
+    pub plus-lt : c + a * marks < 18446744073709551616
+    plus-lt = add-lt 4 16 c (a * marks) hc part-lt fits
 
--- a times a mask has a or 0 in each lane, which is below q
-pub part-below : (q a marks : ℕ) → isAlphabet q ≡ true → a < q → marks < 18446744073709551616 → Mask marks → Below q (a * marks)
-part-below q a marks al l hm mk t h = omega (arith, digit-times 4 16 a marks hm fits t h, part-le a (digit 4 marks t) (mk t h))
-  where
-    fits : (t : ℕ) → t < 16 → a * digit 4 marks t < 16
-    fits t h = omega (arith, part-le a (digit 4 marks t) (mk t h), alphabet-bounds q (alphabet q al))
+    pub plus-is : Lanes (bitAnd (c + a * marks) ((q - 1) * 0x1111_1111_1111_1111)) (λ t. (digit 4 c t + a * digit 4 marks t) % q)
+    plus-is t h =
+        digit-and 4 (c + a * marks) ((q - 1) * 0x1111_1111_1111_1111) t
+        ∙ ap₂ bitAnd (digit-add 4 16 c (a * marks) hc part-lt fits t h ∙ ap (λ z. digit 4 c t + z) (part-lane t h)) (mask-lane q al t h)
+        ∙ mask-mod q _ (alphabet q al)
 
 pub plus-below : (q r : ℕ) (f : ℕ → ℕ) → isAlphabet q ≡ true → Lanes r (λ t. f t % q) → Below q r
 plus-below q r f al e t h = omega (arith, e t h, mod-lt (f t) (alphabet-positive q al))

@@ -20,7 +20,7 @@ less-requires-2 : tie.Need-less-requires-2
 unfolding every digit
 less-requires-2 c κs =
     let s = c .before in
-    (s .pre .0, less-below (s .args .q) _ _ (c .less .result) (s .pre .0) (c .less .ensures), part-below (s .args .q) (s .args .a) _ (s .pre .0) (s .pre .3) (omega arith) (mask-is _ refl))
+    (s .pre .0, less-below (s .args .q) _ _ (c .less .result) (s .pre .0) (c .less .ensures), part-below (s .args .q) (s .args .a) _ (s .pre .0) (omega arith) (s .pre .3) (mask-is _ refl))
 
 returns : tie.Need-returns
 returns c =
