@@ -4,7 +4,6 @@ use mathlib.Core.Path.{_≡_, ap, ap₂, sym, _∙_, subst}
 use mathlib.Core.Logic.{_≢_}
 use mathlib.Core.List.{List, [], _∷_}
 use native.Mathlib.Omega.{arith}
-use Rattle.code_theory.specs.Nearest.{isReadable, nearMessage}
 use Rattle.code_theory.specs.Question.{accepted, refused}
 use Rattle.code_theory.proofs.QuestionLaws.{ask-on, ask-no, answer-yes, answer-no, after-yes, after-no}
 use Rattle.decode_reading.specs.Settled.{Settled}

@@ -3,7 +3,6 @@ use Prim.Native.Nat.{ℕ}
 use mathlib.Core.List.{List, [], _∷_}
 use Rattle.code_theory.specs.Nearest.{isReadable, nearMessage, nearDistance, nearMargin}
 use Rattle.code_theory.specs.Question.{ask, isAlphabet, isVariables, isMessageSize, isWordSize, allBelow, Answer, accepted, refused, answer, after}
-use Rattle.decode_reading.specs.declared.Reading.{Reading}
 use Rattle.codec.specs.declared.Encoded.{Encoded}
 use Rattle.codec.specs.declared.Encoded.the-variants as E
 use Rattle.codec.specs.declared.Decoded.{Decoded}

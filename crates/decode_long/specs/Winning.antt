@@ -1,5 +1,5 @@
 -- What the winners of a word's votes are.
-use Prim.Native.Nat.{ℕ, zero, suc, _-_, _+_, _^_, _≤_, _<_, min}
+use Prim.Native.Nat.{ℕ, zero, suc, _-_, _^_, _≤_, _<_, min}
 use mathlib.Core.Path.{_≡_}
 use mathlib.Core.List.{List}
 use lib.ListN.{length}

@@ -2,7 +2,7 @@
 // and the winners are the only message that can be near the word.
 ghost use mathlib.Core.Path.{_≡_};
 ghost use mathlib.Core.Bool.{true};
-ghost use Prim.Native.Nat.{ℕ, _+_, _-_, _/_, _^_, _<_, _≤_, min};
+ghost use Prim.Native.Nat.{_+_, _-_, _^_, _<_, _≤_, min};
 ghost use lib.ListN.{length, set, take};
 ghost use Rattle.code_theory.specs.Sum.{at};
 ghost use Rattle.code_theory.specs.Question.{isAlphabet};

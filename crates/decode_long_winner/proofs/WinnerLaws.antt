@@ -7,7 +7,6 @@ use native.Mathlib.Numerals.{add-one}
 use native.Mathlib.Omega.{arith}
 use native.Mathlib.Nat.{zero-div, eq-or-lt-of-le, le-of-suc-le-suc}
 use Rattle.code_theory.specs.Index.{ifClear}
-use Rattle.code_theory.specs.Modular.{same}
 use Rattle.code_theory.specs.Margin.{mostOther, lead}
 use Rattle.code_theory.proofs.ModularLaws.{same-eq, same-ne}
 use Rattle.code_theory.proofs.MarginLaws.{mostOther-le, le-mostOther, mostOther-ext}

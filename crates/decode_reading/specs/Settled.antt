@@ -4,7 +4,6 @@ use mathlib.Core.Path.{_≡_}
 use mathlib.Core.Bool.{true, false}
 use mathlib.Core.List.{List}
 use Rattle.code_theory.specs.Nearest.{isReadable, nearMessage, nearDistance, nearMargin}
-use Rattle.decode_reading.specs.declared.Reading.{Reading}
 use Rattle.decode_reading.specs.declared.Outcome.{Outcome}
 use Rattle.decode_reading.specs.declared.Outcome.the-variants.{Read, Doubtful}
 

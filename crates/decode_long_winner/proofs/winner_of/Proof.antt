@@ -1,6 +1,6 @@
 -- `winner_of` meets its contract. The loop's invariant: a and b are the tallies with v - 1 digits taken off, and r leads among the values below v.
 use Prim.Native.Nat.{_≤_, _*_, _-_, _/_, _^_}
-use mathlib.Core.Path.{_≡_, sym, _∙_, ap₂}
+use mathlib.Core.Path.{_≡_}
 use native.Mathlib.Omega.{arith}
 use borrow.Author.Needs.{needs}
 use Rattle.code_theory.proofs.QuestionLaws.{alphabet, alphabet-bounds}
