@@ -116,13 +116,12 @@ fn winners(q: u32, m: u32, word: &[u8], message: &mut [u8; 9]) -> Reading
 }
 
 // Fills the message from the front of the symbols found.
-fn copy(found: &[u8; 9], message: &mut [u8])
-    requires { ⌜ (length (now found) ≡ 9) × (length (now message) ≤ 9) ⌝ }
+fn copy(found: &[u8], message: &mut [u8])
+    requires { ⌜ length (now message) ≤ length (now found) ⌝ }
     ensures { λ r. ⌜ now (message .exit) ≡ take (length (now (message .entry))) (now (found .entry)) ⌝ }
 {
-    for i in 0..message.len() {
-        message[i] = found[i];
-    }
+    let n = message.len();
+    bytes::copy(&found[..n], message);
 }
 
 // Reads a word of 32 places or more: fills the message with the winners, where they are near.

@@ -1,59 +1,43 @@
--- `copy` meets its contract. The loop's invariant: the first i symbols are copied.
-use Prim.Native.Nat.{_≤_, _-_}
-use mathlib.Core.Path.{_≡_, refl}
-use native.Mathlib.Omega.{arith}
-use lib.ListN.{length, take, length-set}
+-- `copy` meets its contract: what is copied is as long as the message, so nothing of the message is left.
+use Prim.Native.Nat.{ℕ, _≤_}
+use mathlib.Core.Path.{_≡_, refl, sym, ap, _∙_}
+use mathlib.Core.List.{List, _++_, append-nil}
+use native.Mathlib.Nat.{le-of-eq}
+use lib.ListN.{length, take, drop}
+use lib.Seq.{length-take-le, take-length, drop-length}
 use borrow.Author.Needs.{needs}
-use Rattle.code_theory.proofs.ListLaws.{copy-next, copy-all}
 use Rattle.decode_long.proofs.copy.Statement.{statement}
 use Rattle.decode_long.proofs.copy.Tie as tie
 
-abbrev Inv-loop : tie.InvT-loop
-Inv-loop found message₀ i₀ i-end message i = (i ≤ i-end) × (i-end ≡ length message₀) × (length message ≡ length message₀) × (take i message ≡ take i found)
+-- the front of found, then what is left of the message: nothing
+copied : (found message front after : List ℕ) → length message ≤ length found → front ≡ take (length message) found
+    → after ≡ take (length front) front ++ drop (length front) message → after ≡ take (length message) found
+copied found message front after h f e =
+    let n : length front ≡ length message = ap length f ∙ length-take-le (length message) found h in
+    e ∙ ap (λ l. l ++ drop (length front) message) (take-length front)
+    ∙ ap (λ k. front ++ drop k message) n
+    ∙ ap (λ l. front ++ l) (drop-length message)
+    ∙ append-nil front
+    ∙ f
 
-abbrev μ-loop : tie.MeasureT-loop
-μ-loop found message₀ i₀ i-end message i = i-end - i
+slice-aggregate-copy : tie.Need-slice-aggregate-copy
+slice-aggregate-copy c =
+    let s = c .before .before .before in
+    sym (length-take-le (length (s .args .message .now)) (s .args .found .now) (s .pre))
 
-loop-holds : tie.Need-loop-holds Inv-loop μ-loop
-loop-holds c = (omega arith, refl, refl, refl)
+copy-requires : tie.Need-copy-requires
+copy-requires c κs =
+    let s = c .before .before .before .before in
+    le-of-eq (length-take-le (length (s .args .message .now)) (s .args .found .now) (s .pre))
 
-element-copy-out-message : tie.Need-element-copy-out-message Inv-loop μ-loop
-element-copy-out-message c = omega (arith, c .before .before .pre .1)
+same-length : tie.Need-same-length
+same-length c = search needs
 
-slice-write-message : tie.Need-slice-write-message Inv-loop μ-loop
-slice-write-message c = omega arith
-
-add-i : tie.Need-add-i Inv-loop μ-loop
-add-i c = search needs
-
-loop-less : tie.Need-loop-less Inv-loop μ-loop
-loop-less c = search needs
-
-loop-again : tie.Need-loop-again Inv-loop μ-loop
-loop-again c =
-    let l = c .before .before .loop in
-    let p = c .before .before .before .pre in
-    (omega arith, refl, simp length-set (l .inv .2), copy-next (l .message) _ (l .i) (omega arith) (omega (arith, p .0, p .1)) (l .inv .3))
-
-same-length : tie.Need-same-length Inv-loop μ-loop
-same-length c = c .before .loop .inv .2
-
-returns : tie.Need-returns Inv-loop μ-loop
+returns : tie.Need-returns
 returns c =
-    let l = c .before .loop in
-    copy-all (l .message) _ (l .i) _ (omega arith) (l .inv .2) (l .inv .3)
+    let s = c .before .before .before .before .before .before .before in
+    let r = c .before .before .copy in
+    copied (s .args .found .now) (s .args .message .now) _ (r .last .1 .0) (s .pre) refl (r .ensures .1)
 
 pub copy-spec : {M : Type 1} → statement M
-copy-spec =
-    tie.close
-    (tie.spec
-    Inv-loop
-    μ-loop
-    loop-holds
-    element-copy-out-message
-    slice-write-message
-    add-i
-    loop-less
-    loop-again
-    same-length
-    returns)
+copy-spec = tie.close (tie.spec slice-aggregate-copy copy-requires same-length returns)
