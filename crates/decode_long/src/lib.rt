@@ -115,15 +115,6 @@ fn winners(q: u32, m: u32, word: &[u8], message: &mut [u8; 9]) -> Reading
     winners_long(q, m, &units, word, message)
 }
 
-// Fills the message from the front of the symbols found.
-fn copy(found: &[u8], message: &mut [u8])
-    requires { ⌜ length (now message) ≤ length (now found) ⌝ }
-    ensures { λ r. ⌜ now (message .exit) ≡ take (length (now (message .entry))) (now (found .entry)) ⌝ }
-{
-    let n = message.len();
-    bytes::copy(&found[..n], message);
-}
-
 // Reads a word of 32 places or more: fills the message with the winners, where they are near.
 pub fn read(q: u32, m: u32, message: &mut [u8], word: &[u8]) -> Outcome
     requires { ⌜ WellFormed q m (now word) × (5 ≤ m) × (length (now message) ≡ m + 1) ⌝ }
@@ -134,6 +125,7 @@ pub fn read(q: u32, m: u32, message: &mut [u8], word: &[u8]) -> Outcome
     if 4 * reading.wrong >= word.len() as u32 {
         return Outcome::Doubtful;
     }
-    copy(&found, message);
+    let n = message.len();
+    bytes::copy(&found[..n], message);
     Outcome::Read(reading)
 }

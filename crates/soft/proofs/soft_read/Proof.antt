@@ -1,12 +1,14 @@
 -- `soft_read` meets its contract: its ends are a no to the questions up to 10, an unsure decision, and the message.
 use mathlib.Core.Path.{refl, ap, sym, _∙_}
-use native.Mathlib.Omega.{arith}
+use native.Mathlib.Nat.{le-of-eq}
 use borrow.Author.Tests.{not-true, not-false}
-use lib.ListN.{length-set}
+use lib.ListN.{set}
+use lib.Seq.{length-take-le}
+use Rattle.code_theory.proofs.ListLaws.{front-copied}
 use Rattle.soft_theory.specs.Decision.{isSure, symbol}
 use Rattle.soft.specs.Answers.{softAnswered}
 use Rattle.soft.proofs.Refusals.{read-accepted}
-use Rattle.soft.proofs.ReadLaws.{one-unsure, constant-unsure, all-yes, message-is, read-out, read-unsure, read-sure}
+use Rattle.soft.proofs.ReadLaws.{one-unsure, constant-unsure, all-yes, message-fits, message-is, read-out, read-unsure, read-sure}
 use borrow.Author.Needs.{needs}
 use Rattle.soft.proofs.soft_read.Statement.{statement}
 use Rattle.soft.proofs.soft_read.Tie as tie
@@ -60,8 +62,21 @@ symbol-of-requires c κs = search needs
 array-write-found : tie.Need-array-write-found
 array-write-found c = search needs
 
+array-share-prefix-found : tie.Need-array-share-prefix-found
+array-share-prefix-found c =
+    let g = c .before .before .before .before .before in
+    let f = g .before .before in
+    let e = f .before .before in
+    let (s, l) = read-accepted _ _ _ _ (sym (e .before .sample-refusal .ensures) ∙ e .if1 .left) in
+    message-fits _ _ _ _ (c .symbol-of .result) _ l (s .high) (f .coefficients .ensures .1 (not-false _ (g .if2 .left)))
+
 slice-aggregate-copy : tie.Need-slice-aggregate-copy
-slice-aggregate-copy c = search needs
+slice-aggregate-copy c =
+    let g = c .before .before .before .before .before .before in
+    let f = g .before .before in
+    let e = f .before .before in
+    let (s, l) = read-accepted _ _ _ _ (sym (e .before .sample-refusal .ensures) ∙ e .if1 .left) in
+    sym (length-take-le _ _ (message-fits _ _ _ _ (c .before .symbol-of .result) _ l (s .high) (f .coefficients .ensures .1 (not-false _ (g .if2 .left)))))
 
 copy-requires : tie.Need-copy-requires
 copy-requires c κs =
@@ -69,7 +84,7 @@ copy-requires c κs =
     let f = g .before .before in
     let e = f .before .before in
     let (s, l) = read-accepted _ _ _ _ (sym (e .before .sample-refusal .ensures) ∙ e .if1 .left) in
-    omega (arith, l, s .high, length-set (f .coefficients .last .1 .1 .1 .0) 0 (c .before .before .symbol-of .result), f .coefficients .ensures .1 (not-false _ (g .if2 .left)) .size)
+    le-of-eq (length-take-le _ _ (message-fits _ _ _ _ (c .before .before .symbol-of .result) _ l (s .high) (f .coefficients .ensures .1 (not-false _ (g .if2 .left)))))
 
 same-length : tie.Need-same-length
 same-length c = search needs
@@ -83,12 +98,14 @@ returns-4 c =
     let f = g .before .before in
     let e = f .before .before in
     let (s, l) = read-accepted _ _ _ _ (sym (e .before .sample-refusal .ensures) ∙ e .if1 .left) in
+    let found = f .coefficients .ensures .1 (not-false _ (g .if2 .left)) in
     read-sure _ _ _ _ _ (e .before .sample-refusal .ensures) (e .if1 .left)
     (all-yes _ _ _ (t .is-sure .result) (sym (not-false _ (g .if2 .left)) ∙ f .coefficients .ensures .0)
     (t .is-sure .ensures ∙ ap isSure (t .before .constant .ensures)) (v .before .if3 .left))
     _
-    (c .before .before .copy .ensures
-    ∙ message-is _ _ _ _ (v .symbol-of .result) _ l (s .high) (f .coefficients .ensures .1 (not-false _ (g .if2 .left)))
+    (front-copied (set (f .coefficients .last .1 .1 .1 .0) 0 (v .symbol-of .result)) (e .before .before .before .before .before .args .message .now) _ _
+    (message-fits _ _ _ _ (v .symbol-of .result) _ l (s .high) found) refl (c .before .before .copy .ensures .1)
+    ∙ message-is _ _ _ _ (v .symbol-of .result) _ l (s .high) found
     (v .symbol-of .ensures ∙ ap symbol (t .before .constant .ensures)))
 
 pub soft-read-spec : {M : Type 1} → statement M
@@ -106,6 +123,7 @@ soft-read-spec =
     returns-3
     symbol-of-requires
     array-write-found
+    array-share-prefix-found
     slice-aggregate-copy
     copy-requires
     same-length
