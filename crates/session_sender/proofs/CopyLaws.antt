@@ -1,12 +1,10 @@
 -- The steps of the code that copies the message and writes its word. Assumes nothing.
-use Prim.Native.Nat.{ℕ, zero, suc, _+_, _≤_, _<_}
-use mathlib.Core.Path.{_≡_, refl, sym, _∙_}
-use mathlib.Core.List.{List}
-use native.Mathlib.Nat.{not-suc-le-zero}
+use Prim.Native.Nat.{ℕ, zero, suc, _-_, _≤_, _<_}
+use mathlib.Core.Path.{_≡_, ap, sym, _∙_}
+use mathlib.Core.List.{List, _++_}
 use native.Mathlib.Omega.{arith}
-use lib.ListN.{length, set, length-set}
-use lib.Seq.{getD-set-same, getD-set-other}
-use borrow.Author.Count.{below-more}
+use lib.ListN.{length, take, drop, set, length-set, List·getD-append}
+use lib.Seq.{getD-set-same, getD-set-other, getD-append-add, getD-drop, take-length, length-take-le, length-front}
 use Rattle.code_theory.specs.Sum.{at}
 use Rattle.code_theory.specs.Code.{codeword}
 use Rattle.code_theory.proofs.CodeLaws.{symbolAt-ext, codeword-is}
@@ -15,37 +13,30 @@ use Rattle.code_theory.proofs.TurnLaws.{constant-set}
 use Rattle.encode_codeword.specs.Coded.{Fits, Written}
 use Rattle.session_sender.specs.Step.{Placed, Sendable}
 
--- the first i places of w are those of the message, and the others are as in w₀
-pub record Copied (message w₀ : List ℕ) (i : ℕ) (w : List ℕ) : Type 0 where
-  pub size : length w ≡ length w₀
-  pub each : (k : ℕ) → k < i → at w k ≡ at message k
-  pub rest : (k : ℕ) → i ≤ k → at w k ≡ at w₀ k
+-- THE MESSAGE COPIED to the front of w, and then the constant set in place 0
+module _ (constant : ℕ) (message w copy : List ℕ) (some : 0 < length message) (h : length message ≤ length w)
+    (e : copy ≡ take (length message) message ++ drop (length message) w) where
+  copied : copy ≡ message ++ drop (length message) w
+  copied = e ∙ ap (λ l. l ++ drop (length message) w) (take-length message)
 
-pub copied-none : (message w : List ℕ) → Copied message w 0 w
-copied-none message w = record { size = refl; each = λ k l. absurd (not-suc-le-zero l); rest = λ k l. refl }
+  pub copied-size : length copy ≡ length w
+  copied-size = ap length copied ∙ length-front w message (length message) (sym (length-take-le (length message) w h))
 
-pub copied-next : (message w₀ : List ℕ) (i : ℕ) (w : List ℕ) → length message ≤ length w₀ → i < length message → Copied message w₀ i w
-    → Copied message w₀ (i + 1) (set w i (at message i))
-copied-next message w₀ i w h l c = record {
-  size = length-set w i _ ∙ c .size;
-  each = below-more (λ k. at (set w i (at message i)) k ≡ at message k) i
-      (λ k b. getD-set-other w i k _ 0 (λ e. omega (arith, e, b)) ∙ c .each k b)
-      (getD-set-same w i _ 0 (omega (arith, c .size)));
-  rest = λ k b. getD-set-other w i k _ 0 (λ e. omega (arith, e, b)) ∙ c .rest k (omega (arith, b));
-}
-
-pub copied-placed : (constant : ℕ) (message w₀ w : List ℕ) (i : ℕ) → 0 < length message → length message ≤ length w₀ → i ≡ length message → Copied message w₀ i w
-    → Placed constant message w₀ (set w 0 constant)
-copied-placed constant message w₀ w i h l e c = record {
-  size = length-set w 0 constant ∙ c .size;
-  each = each;
-  rest = λ k b. getD-set-other w 0 k constant 0 (λ z. omega (arith, z, b, h)) ∙ c .rest k (omega (arith, b, e));
-}
-  where
-    each : (k : ℕ) → k < length message → at (set w 0 constant) k ≡ at (set message 0 constant) k
-    each zero b = getD-set-same w 0 constant 0 (omega (arith, c .size)) ∙ sym (getD-set-same message 0 constant 0 h)
-    each (suc k) b =
-        getD-set-other w 0 (suc k) constant 0 (λ e. omega (arith, e)) ∙ c .each (suc k) (omega (arith, e)) ∙ sym (getD-set-other message 0 (suc k) constant 0 (λ e. omega (arith, e)))
+  pub copied-placed : Placed constant message w (set copy 0 constant)
+  copied-placed = record {
+    size = length-set copy 0 constant ∙ copied-size;
+    each = each;
+    rest = λ k b.
+        getD-set-other copy 0 k constant 0 (λ z. omega (arith, z, b)) ∙ ap (λ l. at l k) copied
+        ∙ ap (at (message ++ drop (length message) w)) (omega (arith, b)) ∙ getD-append-add message _ (k - length message) 0
+        ∙ getD-drop (length message) w (k - length message) 0 ∙ ap (at w) (omega (arith, b));
+  }
+    where
+      each : (k : ℕ) → k < length message → at (set copy 0 constant) k ≡ at (set message 0 constant) k
+      each zero b = getD-set-same copy 0 constant 0 (omega (arith, copied-size)) ∙ sym (getD-set-same message 0 constant 0 some)
+      each (suc k) b =
+          getD-set-other copy 0 (suc k) constant 0 (λ z. omega (arith, z)) ∙ ap (λ l. at l (suc k)) copied
+          ∙ List·getD-append message _ 0 (suc k) b ∙ sym (getD-set-other message 0 (suc k) constant 0 (λ z. omega (arith, z)))
 
 pub message-fits : (q m constant : ℕ) (message word : List ℕ) → Sendable q m constant message word → (0 < length message) × (length message ≤ 9)
 message-fits q m constant message word s = (omega (arith, s .symbols .size), omega (arith, s .symbols .size, variables-bounds m (s .variables)))
