@@ -4,5 +4,5 @@ use mathlib.Core.Path.{_≡_}
 use mathlib.Core.List.{List}
 use Rattle.code_theory.specs.Word.{WellFormed}
 
-pub received-at : (q m n : ℕ) (w : List ℕ) → m ≡ n → WellFormed q m w → WellFormed q n w
-received-at q m n w e r = rw e at r
+pub well-formed-at : (q m n : ℕ) (w : List ℕ) → m ≡ n → WellFormed q m w → WellFormed q n w
+well-formed-at q m n w e r = rw e at r

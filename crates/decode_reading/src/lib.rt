@@ -1,4 +1,5 @@
-// What a reader of words answers.
+// What every reader of words answers.
+
 // How a word was read: the places where it differs from the message's word, and the least lead of the message's symbols.
 pub struct Reading {
     pub wrong: u32,

@@ -2,29 +2,29 @@
 use native.Mathlib.Omega.{arith}
 use borrow.Author.Needs.{needs}
 use Rattle.decode_reading.proofs.SettleLaws.{settled-at}
-use Rattle.decode_by_length.proofs.LengthLaws.{received-at}
+use Rattle.decode_by_length.proofs.LengthLaws.{well-formed-at}
 use Rattle.decode_by_length.proofs.read.Statement.{statement}
 use Rattle.decode_by_length.proofs.read.Tie as tie
 
 read-4-requires : tie.Need-read-4-requires
 read-4-requires c κs =
     let s = c .before .before .before .before in
-    (received-at _ (s .args .m) 2 _ (omega arith) (s .pre .0), omega (arith, s .pre .1))
+    (well-formed-at _ (s .args .m) 2 _ (omega arith) (s .pre .0), omega (arith, s .pre .1))
 
 read-8-requires : tie.Need-read-8-requires
 read-8-requires c κs =
     let s = c .before .before .before .before in
-    (received-at _ (s .args .m) 3 _ (omega arith) (s .pre .0), omega (arith, s .pre .1))
+    (well-formed-at _ (s .args .m) 3 _ (omega arith) (s .pre .0), omega (arith, s .pre .1))
 
 read-16-requires : tie.Need-read-16-requires
 read-16-requires c κs =
     let s = c .before .before .before .before in
-    (received-at _ (s .args .m) 4 _ (omega arith) (s .pre .0), omega (arith, s .pre .1))
+    (well-formed-at _ (s .args .m) 4 _ (omega arith) (s .pre .0), omega (arith, s .pre .1))
 
 read-32-requires : tie.Need-read-32-requires
 read-32-requires c κs =
     let s = c .before .before .before .before in
-    (received-at _ (s .args .m) 5 _ (omega arith) (s .pre .0), omega (arith, s .pre .1))
+    (well-formed-at _ (s .args .m) 5 _ (omega arith) (s .pre .0), omega (arith, s .pre .1))
 
 read-requires : tie.Need-read-requires
 read-requires c κs = search needs
