@@ -123,9 +123,9 @@ module _ (m : ℕ) (re im : List Float) where
     all-yes e = all-are ∙ ap (λ u. u && true) (not-false t e)
 
   -- ---- the message
-  -- it is not longer than what is found
-  pub message-fits : (l v : ℕ) (f : List ℕ) → l ≡ suc m → m ≤ 8 → Found m re im m f → l ≤ length (set f 0 v)
-  message-fits l v f e h g = omega (arith, e, length-set f 0 v, g .size)
+  -- it is not longer than what is found, with one symbol set
+  pub message-fits : (l i v : ℕ) (f : List ℕ) → l ≡ suc m → m ≤ 8 → Found m re im m f → l ≤ length (set f i v)
+  message-fits l i v f e h g = omega (arith, e, length-set f i v, g .size)
 
   pub message-is : (l v : ℕ) (f : List ℕ) → l ≡ suc m → m ≤ 8 → Found m re im m f → v ≡ symbol (constantDecision m re im)
       → take l (set f 0 v) ≡ softMessage f32 m (sample f32 re im)

@@ -68,7 +68,7 @@ array-share-prefix-found c =
     let f = g .before .before in
     let e = f .before .before in
     let (s, l) = read-accepted _ _ _ _ (sym (e .before .sample-refusal .ensures) ∙ e .if1 .left) in
-    message-fits _ _ _ _ (c .symbol-of .result) _ l (s .high) (f .coefficients .ensures .1 (not-false _ (g .if2 .left)))
+    message-fits _ _ _ _ _ (c .symbol-of .result) _ l (s .high) (f .coefficients .ensures .1 (not-false _ (g .if2 .left)))
 
 slice-aggregate-copy : tie.Need-slice-aggregate-copy
 slice-aggregate-copy c =
@@ -76,7 +76,7 @@ slice-aggregate-copy c =
     let f = g .before .before in
     let e = f .before .before in
     let (s, l) = read-accepted _ _ _ _ (sym (e .before .sample-refusal .ensures) ∙ e .if1 .left) in
-    sym (length-take-le _ _ (message-fits _ _ _ _ (c .before .symbol-of .result) _ l (s .high) (f .coefficients .ensures .1 (not-false _ (g .if2 .left)))))
+    sym (length-take-le _ _ (message-fits _ _ _ _ _ (c .before .symbol-of .result) _ l (s .high) (f .coefficients .ensures .1 (not-false _ (g .if2 .left)))))
 
 copy-requires : tie.Need-copy-requires
 copy-requires c κs =
@@ -84,7 +84,7 @@ copy-requires c κs =
     let f = g .before .before in
     let e = f .before .before in
     let (s, l) = read-accepted _ _ _ _ (sym (e .before .sample-refusal .ensures) ∙ e .if1 .left) in
-    le-of-eq (length-take-le _ _ (message-fits _ _ _ _ (c .before .before .symbol-of .result) _ l (s .high) (f .coefficients .ensures .1 (not-false _ (g .if2 .left)))))
+    le-of-eq (length-take-le _ _ (message-fits _ _ _ _ _ (c .before .before .symbol-of .result) _ l (s .high) (f .coefficients .ensures .1 (not-false _ (g .if2 .left)))))
 
 same-length : tie.Need-same-length
 same-length c = search needs
@@ -104,7 +104,7 @@ returns-4 c =
     (t .is-sure .ensures ∙ ap isSure (t .before .constant .ensures)) (v .before .if3 .left))
     _
     (front-copied (set (f .coefficients .last .1 .1 .1 .0) 0 (v .symbol-of .result)) (e .before .before .before .before .before .args .message .now) _ _
-    (message-fits _ _ _ _ (v .symbol-of .result) _ l (s .high) found) refl (c .before .before .copy .ensures .1)
+    (message-fits _ _ _ _ _ (v .symbol-of .result) _ l (s .high) found) refl (c .before .before .copy .ensures .1)
     ∙ message-is _ _ _ _ (v .symbol-of .result) _ l (s .high) found
     (v .symbol-of .ensures ∙ ap symbol (t .before .constant .ensures)))
 
