@@ -44,14 +44,14 @@ max-le-sum (suc n) f = omega (arith, max-le-sum n f)
 -- THE LOOP at v: b is the number of votes for the values from 1 to v - 1, and m the most for one of them
 module _ (q v b m : ℕ) (f : ℕ → ℕ) (eb : b ≡ sumFrom1 (v - 1) f) (em : m ≡ maxFrom1 (v - 1) f) where
   -- a turn of the loop adds the n votes for v
-  pub turn-sum : (n : ℕ) → 1 ≤ v → n ≡ f v → b + n ≡ sumFrom1 (v + 1 - 1) f
-  turn-sum n h e = ap₂ (λ x y. x + y) eb e ∙ sym (sum-more v f h)
+  pub step-sum : (n : ℕ) → 1 ≤ v → n ≡ f v → b + n ≡ sumFrom1 (v + 1 - 1) f
+  step-sum n h e = ap₂ (λ x y. x + y) eb e ∙ sym (sum-more v f h)
 
-  pub turn-max : (n r : ℕ) → 1 ≤ v → n ≡ f v → r ≡ max m n → r ≡ maxFrom1 (v + 1 - 1) f
-  turn-max n r h e g = g ∙ ap₂ max em e ∙ sym (max-more v f h)
+  pub step-max : (n r : ℕ) → 1 ≤ v → n ≡ f v → r ≡ max m n → r ≡ maxFrom1 (v + 1 - 1) f
+  step-max n r h e g = g ∙ ap₂ max em e ∙ sym (max-more v f h)
 
-  pub turn-fits : (n s : ℕ) → 1 ≤ v → v < q → n ≡ f v → sumFrom1 (q - 1) f < s → b + n < s
-  turn-fits n s h l e g = omega (arith, eb, e, g, sum-within v q f h l)
+  pub step-fits : (n s : ℕ) → 1 ≤ v → v < q → n ≡ f v → sumFrom1 (q - 1) f < s → b + n < s
+  step-fits n s h l e g = omega (arith, eb, e, g, sum-within v q f h l)
 
   -- at the end of the loop v is q
   pub last-fits : (h : ℕ) → v ≡ q → 2 * sumFrom1 (q - 1) f ≤ h → b + m ≤ h

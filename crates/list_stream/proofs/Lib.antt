@@ -1,2 +1,2 @@
 pub mod StreamLaws
-pub mod TurnLaws
+pub mod RoundLaws

@@ -13,7 +13,7 @@ ghost use Rattle.list_line.specs.Listing.{opened};
 ghost use Rattle.text_chunks.specs.Chunks.{fed, fedText, fedCount, endText};
 ghost use Rattle.text_chunks.specs.Reading.{given};
 ghost use Rattle.list_stream.specs.Stream.{reader, progress, Fit};
-ghost use Rattle.list_stream.specs.Turns.{Part, Turned};
+ghost use Rattle.list_stream.specs.Rounds.{Part, RoundOf};
 ghost use Rattle.list_stream.specs.Parts.{Ended, Goes, Reads};
 
 // A listing on its way: the session, how many bytes of the line that has begun are kept, and whether the reading has ended.
@@ -182,31 +182,31 @@ pub fn finish(lister: Lister, line: &[u8], out: &mut [u8]) -> usize
     listed.next
 }
 
-// What a turn leaves: the lister, how many bytes of the output are to be written, and what comes next.
-pub struct Outcome {
+// What a round leaves: the lister, how many bytes of the output are to be written, and what comes next.
+pub struct Round {
     pub lister: Lister,
     pub written: usize,
     pub next: Next,
 }
 
 // Lists the bytes from a place on, as far as the output has room.
-fn list_part(lister: Lister, line: &mut [u8], bytes: &[u8], at: usize, out: &mut [u8]) -> Outcome
+fn list_part(lister: Lister, line: &mut [u8], bytes: &[u8], at: usize, out: &mut [u8]) -> Round
     requires { ⌜ Fit lister (now line) × (at ≤ length (now bytes)) ⌝ }
     ensures { λ r. ⌜ Part (progress lister (now (line .entry))) (now (line .exit)) (now (bytes .entry)) at (now (out .entry)) (now (out .exit)) r ⌝ }
 {
     let fed = feed(lister, line, &bytes[at..], out);
     let state = fed.lister;
     let next = text_chunks::after_part(state.over, at + fed.read, bytes.len());
-    Outcome {
+    Round {
         lister: state,
         written: fed.written,
         next,
     }
 }
 
-// One turn of the program, by what its last read gave: so many bytes of the chunk, of which those before a place are listed; 0 at the end
+// One round of the program, by what its last read gave: so many bytes of the chunk, of which those before a place are listed; 0 at the end
 // of the input; less where it failed, with this error.
-pub fn turn(
+pub fn list_round(
     lister: Lister,
     line: &mut [u8],
     got: isize,
@@ -214,12 +214,12 @@ pub fn turn(
     chunk: &[u8],
     at: usize,
     out: &mut [u8],
-) -> Outcome
+) -> Round
     requires { ⌜ Fit lister (now line) × (64 ≤ length (now out)) × (given got ≤ length (now chunk)) × (at ≤ given got) ⌝ }
-    ensures { λ r. ⌜ Turned got error lister (now (line .entry)) (now (line .exit)) (now (chunk .entry)) at (now (out .entry)) (now (out .exit)) r ⌝ }
+    ensures { λ r. ⌜ RoundOf got error lister (now (line .entry)) (now (line .exit)) (now (chunk .entry)) at (now (out .entry)) (now (out .exit)) r ⌝ }
 {
     if got < 0 {
-        return Outcome {
+        return Round {
             lister,
             written: 0,
             next: text_chunks::after_failure(error),
@@ -228,7 +228,7 @@ pub fn turn(
     let n = got as usize;
     if n == 0 {
         let written = finish(lister, line, out);
-        return Outcome {
+        return Round {
             lister,
             written,
             next: Next::End,

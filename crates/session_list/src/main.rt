@@ -1,5 +1,5 @@
 // The session list: reads the lines of a session from standard input and lists them on standard output. What is listed for the bytes of a
-// read, and what comes next, is decided by list_stream::turn; here are only the calls of the system. A read or a write that fails ends the
+// read, and what comes next, is decided by list_stream::list_round; here are only the calls of the system. A read or a write that fails ends the
 // list and says so on standard error: a list that is cut short looks like a whole one.
 use libc::STDIN_FILENO;
 use libc::STDOUT_FILENO;
@@ -52,7 +52,7 @@ fn failed() -> Place
     end()
 }
 
-// Does what comes next after a turn on a chunk of which a read gave so many bytes.
+// Does what comes next after a round on a chunk of which a read gave so many bytes.
 fn go_on(next: Next, got: isize, error: i32, chunk: &mut [u8]) -> Place
     requires { ⌜ (given got ≤ length (now chunk)) × (placeOf next ≤ given got) ⌝ }
     ensures bounds { λ r. ⌜ (given (r .got) ≤ length (now (chunk .exit))) × (r .at ≤ given (r .got)) ⌝ }
@@ -83,26 +83,34 @@ fn write(out: &[u8], n: usize) -> bool
     is_written
 }
 
-// Lists the input. A proved loop has to end, so it counts its turns down from a number that no run uses up.
+// Lists the input. A proved loop has to end, so it counts its rounds down from a number that no run uses up.
 fn list_all(chunk: &mut [u8], line: &mut [u8], out: &mut [u8])
     requires { ⌜ (length (now line) ≡ 17) × (64 ≤ length (now out)) ⌝ }
 {
     let mut lister = list_stream::start();
     let mut place = read(chunk);
-    let mut turns = u64::MAX;
-    while turns > 0 {
-        let turn = list_stream::turn(lister, line, place.got, place.error, chunk, place.at, out);
-        lister = turn.lister;
-        if !write(out, turn.written) {
+    let mut rounds = u64::MAX;
+    while rounds > 0 {
+        let round = list_stream::list_round(
+            lister,
+            line,
+            place.got,
+            place.error,
+            chunk,
+            place.at,
+            out,
+        );
+        lister = round.lister;
+        if !write(out, round.written) {
             return;
         }
-        let next = turn.next;
+        let next = round.next;
         place = go_on(next, place.got, place.error, chunk);
         let more = place.more;
         if !more {
             return;
         }
-        turns -= 1;
+        rounds -= 1;
     }
 }
 

@@ -23,7 +23,7 @@ pub fn keep_part(kept: usize, line: &mut [u8], part: &[u8]) -> usize
     n
 }
 
-// What comes after a turn of such a program: a read, the rest of this chunk from a place on, or nothing more, since the reading has ended
+// What comes after a round of such a program: a read, the rest of this chunk from a place on, or nothing more, since the reading has ended
 // or a read failed.
 pub enum Next {
     Read,

@@ -5,7 +5,7 @@ use native.Mathlib.Omega.{arith}
 use borrow.Author.Needs.{needs}
 use Rattle.code_theory.proofs.ErrorLaws.{sumFrom1, maxFrom1}
 use Rattle.decode_short_lead.specs.Lead.{lanesEqual}
-use Rattle.decode_short_lead.proofs.LeadLaws.{sum-within, turn-sum, turn-max, turn-fits, last-fits, last-is}
+use Rattle.decode_short_lead.proofs.LeadLaws.{sum-within, step-sum, step-max, step-fits, last-fits, last-is}
 use Rattle.decode_short_lead.proofs.lead_by_values.Statement.{statement}
 use Rattle.decode_short_lead.proofs.lead_by_values.Tie as tie
 
@@ -33,7 +33,7 @@ add-bad : tie.Need-add-bad Inv-loop μ-loop
 add-bad c =
     let s = c .before .before .before in
     let l = c .before .before .loop in
-    let few = turn-fits (s .args .q) (l .v) _ _ (lanesEqual (s .args .x)) (l .inv .2) (l .inv .3) _ 15 (l .inv .0) (omega arith) (c .votes .ensures) (s .pre .3) in
+    let few = step-fits (s .args .q) (l .v) _ _ (lanesEqual (s .args .x)) (l .inv .2) (l .inv .3) _ 15 (l .inv .0) (omega arith) (c .votes .ensures) (s .pre .3) in
     record { fits = omega (arith, few) }
 
 larger-requires : tie.Need-larger-requires Inv-loop μ-loop
@@ -52,8 +52,8 @@ loop-again c =
     let f = lanesEqual (s .args .x) in (
       omega arith,
       omega arith,
-      turn-sum (s .args .q) (l .v) _ _ f (l .inv .2) (l .inv .3) _ (l .inv .0) (c .before .votes .ensures),
-      turn-max (s .args .q) (l .v) _ _ f (l .inv .2) (l .inv .3) _ _ (l .inv .0) (c .before .votes .ensures) (c .larger .ensures),
+      step-sum (s .args .q) (l .v) _ _ f (l .inv .2) (l .inv .3) _ (l .inv .0) (c .before .votes .ensures),
+      step-max (s .args .q) (l .v) _ _ f (l .inv .2) (l .inv .3) _ _ (l .inv .0) (c .before .votes .ensures) (c .larger .ensures),
     )
 
 sub-result : tie.Need-sub-result Inv-loop μ-loop

@@ -1,6 +1,6 @@
 -- `list_part` meets its contract: what is left of the bytes is fed.
 use Rattle.text_chunks.proofs.PartLaws.{remaining}
-use Rattle.list_stream.proofs.TurnLaws.{part-fed}
+use Rattle.list_stream.proofs.RoundLaws.{part-fed}
 use borrow.Author.Needs.{needs}
 use Rattle.list_stream.proofs.list_part.Statement.{statement}
 use Rattle.list_stream.proofs.list_part.Tie as tie

@@ -1,4 +1,4 @@
--- `list_all` is safe and ends: the lister goes on from turn to turn, and the measure is the number of turns that are left.
+-- `list_all` is safe and ends: the lister goes on from round to round, and the measure is the number of rounds that are left.
 use Prim.Native.Nat.{_≤_}
 use mathlib.Core.Path.{_≡_, refl, sym, ap, _∙_}
 use native.Mathlib.Omega.{arith}
@@ -8,18 +8,18 @@ use mir.Facts.{toZ-ofZ}
 use Rattle.list_line.specs.Listing.{opened}
 use Rattle.list_stream.specs.Stream.{Fit}
 use Rattle.text_chunks.specs.Reading.{given}
-use Rattle.list_stream.proofs.TurnLaws.{turned-fits}
+use Rattle.list_stream.proofs.RoundLaws.{round-fits}
 use Rattle.session_list.proofs.ReadLaws.{back-room, back-place}
 use borrow.Author.Needs.{needs}
 use Rattle.session_list.proofs.list_all.Statement.{statement}
 use Rattle.session_list.proofs.list_all.Tie as tie
 
 abbrev Inv-loop : tie.InvT-loop
-Inv-loop chunk₀ line₀ out₀ lister₀ place₀ turns₀ chunk line out lister place turns =
+Inv-loop chunk₀ line₀ out₀ lister₀ place₀ rounds₀ chunk line out lister place rounds =
     Fit lister line × (length chunk ≡ length chunk₀) × (length out ≡ length out₀) × (64 ≤ length out) × (given (place .got) ≤ length chunk) × (place .at ≤ given (place .got))
 
 abbrev μ-loop : tie.MeasureT-loop
-μ-loop chunk₀ line₀ out₀ lister₀ place₀ turns₀ chunk line out lister place turns = turns
+μ-loop chunk₀ line₀ out₀ lister₀ place₀ rounds₀ chunk line out lister place rounds = rounds
 
 start-requires : tie.Need-start-requires Inv-loop μ-loop
 start-requires c κs = search needs
@@ -41,8 +41,8 @@ loop-holds c =
       omega (arith, r .1),
     )
 
-turn-requires : tie.Need-turn-requires Inv-loop μ-loop
-turn-requires c κs =
+list-round-requires : tie.Need-list-round-requires Inv-loop μ-loop
+list-round-requires c κs =
     let l = c .before .before .before .before .before .before in
     let e = toZ-ofZ {w = w64} (record { sfits = c .before .struct-told .given .0 .1 }) in
     (l .loop .inv .0, l .loop .inv .3, back-room (l .loop .place .got) _ _ e (l .loop .inv .4), back-place (l .loop .place .got) _ _ e (l .loop .inv .5))
@@ -52,7 +52,7 @@ write-requires c κs =
     let d = c .before .before .before .before .before .before in
     let l = d .before .before .before .before .before .before .before in
     let e = toZ-ofZ {w = w64} (record { sfits = d .before .before .struct-told .given .0 .1 }) in
-    let f = turned-fits _ _ _ _ _ _ _ _ _ (l .loop .place .got) _ e (l .loop .inv .4) (l .loop .inv .5) (d .turn .ensures) in
+    let f = round-fits _ _ _ _ _ _ _ _ _ (l .loop .place .got) _ e (l .loop .inv .4) (l .loop .inv .5) (d .list-round .ensures) in
     f .1
 
 same-length : tie.Need-same-length Inv-loop μ-loop
@@ -65,12 +65,12 @@ same-length-2 : tie.Need-same-length-2 Inv-loop μ-loop
 same-length-2 c =
     let d = c .before .before .before .before .before .before .before .before in
     let l = d .before .before .before .before .before .before .before in
-    d .turn .kept .1 .0 ∙ l .loop .inv .0 .size ∙ sym (l .before .before .before .before .before .before .before .before .before .pre .0)
+    d .list-round .kept .1 .0 ∙ l .loop .inv .0 .size ∙ sym (l .before .before .before .before .before .before .before .before .before .pre .0)
 
 same-length-3 : tie.Need-same-length-3 Inv-loop μ-loop
 same-length-3 c =
     let d = c .before .before .before .before .before .before .before .before in
-    d .turn .kept .1 .1 .1 .1 .1 .1 .0 ∙ d .before .before .before .before .before .before .before .loop .inv .2
+    d .list-round .kept .1 .1 .1 .1 .1 .1 .0 ∙ d .before .before .before .before .before .before .before .loop .inv .2
 
 returns : tie.Need-returns Inv-loop μ-loop
 returns c = search needs
@@ -80,7 +80,7 @@ go-on-requires c κs =
     let d = c .before .before .before .before .before .before .before .before .before .before .before in
     let l = d .before .before .before .before .before .before .before in
     let e = toZ-ofZ {w = w64} (record { sfits = d .before .before .struct-told .given .0 .1 }) in
-    let f = turned-fits _ _ _ _ _ _ _ _ _ (l .loop .place .got) _ e (l .loop .inv .4) (l .loop .inv .5) (d .turn .ensures) in
+    let f = round-fits _ _ _ _ _ _ _ _ _ (l .loop .place .got) _ e (l .loop .inv .4) (l .loop .inv .5) (d .list-round .ensures) in
     (back-room (l .loop .place .got) _ _ e (l .loop .inv .4), f .2)
 
 same-length-4 : tie.Need-same-length-4 Inv-loop μ-loop
@@ -93,18 +93,18 @@ same-length-5 : tie.Need-same-length-5 Inv-loop μ-loop
 same-length-5 c =
     let d = c .before .before .before .before .before .before .before .before .before .before .before .before .before .before .before in
     let l = d .before .before .before .before .before .before .before in
-    d .turn .kept .1 .0 ∙ l .loop .inv .0 .size ∙ sym (l .before .before .before .before .before .before .before .before .before .pre .0)
+    d .list-round .kept .1 .0 ∙ l .loop .inv .0 .size ∙ sym (l .before .before .before .before .before .before .before .before .before .pre .0)
 
 same-length-6 : tie.Need-same-length-6 Inv-loop μ-loop
 same-length-6 c =
     let d = c .before .before .before .before .before .before .before .before .before .before .before .before .before .before .before in
-    d .turn .kept .1 .1 .1 .1 .1 .1 .0 ∙ d .before .before .before .before .before .before .before .loop .inv .2
+    d .list-round .kept .1 .1 .1 .1 .1 .1 .0 ∙ d .before .before .before .before .before .before .before .loop .inv .2
 
 returns-2 : tie.Need-returns-2 Inv-loop μ-loop
 returns-2 c = search needs
 
-sub-turns : tie.Need-sub-turns Inv-loop μ-loop
-sub-turns c =
+sub-rounds : tie.Need-sub-rounds Inv-loop μ-loop
+sub-rounds c =
     let d = c .before .before .before .before .before .before .before .before .before .before .before .before .before .before .before in
     omega (arith, d .before .before .before .before .before .before .loop-test .taken)
 
@@ -119,11 +119,11 @@ loop-again c =
     let d = x .before .before .before .before .before .before .before .before .before .before .before .before in
     let l = d .before .before .before .before .before .before .before in
     let e = toZ-ofZ {w = w64} (record { sfits = d .before .before .struct-told .given .0 .1 }) in
-    let f = turned-fits _ _ _ _ _ _ _ _ _ (l .loop .place .got) _ e (l .loop .inv .4) (l .loop .inv .5) (d .turn .ensures) in (
+    let f = round-fits _ _ _ _ _ _ _ _ _ (l .loop .place .got) _ e (l .loop .inv .4) (l .loop .inv .5) (d .list-round .ensures) in (
       f .0,
       x .go-on .kept .1 .1 .1 .0 ∙ l .loop .inv .1,
-      d .turn .kept .1 .1 .1 .1 .1 .1 .0 ∙ l .loop .inv .2,
-      omega (arith, d .turn .kept .1 .1 .1 .1 .1 .1 .0, l .loop .inv .3),
+      d .list-round .kept .1 .1 .1 .1 .1 .1 .0 ∙ l .loop .inv .2,
+      omega (arith, d .list-round .kept .1 .1 .1 .1 .1 .1 .0, l .loop .inv .3),
       x .go-on .ensures .0 .0,
       x .go-on .ensures .0 .1,
     )
@@ -149,7 +149,7 @@ list-all-spec =
     start-requires
     read-requires
     loop-holds
-    turn-requires
+    list-round-requires
     write-requires
     same-length
     same-length-2
@@ -160,7 +160,7 @@ list-all-spec =
     same-length-5
     same-length-6
     returns-2
-    sub-turns
+    sub-rounds
     loop-less
     loop-again
     same-length-7

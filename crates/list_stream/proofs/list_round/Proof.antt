@@ -1,4 +1,4 @@
--- `turn` meets its contract, by what the read gave.
+-- `list_round` meets its contract, by what the read gave.
 use mathlib.Core.Path.{refl, sym, ap, _∙_}
 use native.Mathlib.Omega.{arith}
 use lib.Seq.{length-take-le}
@@ -6,10 +6,10 @@ use mir.Facts.{toZ-ofZ}
 use Rattle.text_buffer.proofs.PutLaws.{put-none}
 use Rattle.text_chunks.specs.Reading.{afterFailure}
 use Rattle.text_chunks.proofs.ReadingLaws.{cast-read, cast-fits, given-room}
-use Rattle.list_stream.proofs.TurnLaws.{turned-failed, turned-end, turned-part}
+use Rattle.list_stream.proofs.RoundLaws.{round-failed, round-end, round-part}
 use borrow.Author.Needs.{needs}
-use Rattle.list_stream.proofs.turn.Statement.{statement}
-use Rattle.list_stream.proofs.turn.Tie as tie
+use Rattle.list_stream.proofs.list_round.Statement.{statement}
+use Rattle.list_stream.proofs.list_round.Tie as tie
 
 after-failure-requires : tie.Need-after-failure-requires
 after-failure-requires c κs = search needs
@@ -19,7 +19,7 @@ returns c =
     let i = c .before in
     let s = i .before .before .before .before in
     let next = c .after-failure .ensures ∙ ap afterFailure (toZ-ofZ (s .fits .error)) in
-    turned-failed _ _ _ _ _ _ _ _ _ (s .args .got) _ (toZ-ofZ (s .fits .got)) (i .if1 .taken)
+    round-failed _ _ _ _ _ _ _ _ _ (s .args .got) _ (toZ-ofZ (s .fits .got)) (i .if1 .taken)
     (record { lister = refl; kept = refl; count = refl; buffer = sym (put-none _ 0); then = next; room = omega arith; fit = s .pre .0 })
 
 cast-n : tie.Need-cast-n
@@ -44,7 +44,7 @@ returns-2 c =
     let z = o .before in
     let s = z .before .before .before .before in
     let e = f .finish .ensures in
-    turned-end _ _ _ _ _ _ _ _ _ (s .args .got) _ (toZ-ofZ (s .fits .got)) (z .if1 .left) (o .if2 .taken)
+    round-end _ _ _ _ _ _ _ _ _ (s .args .got) _ (toZ-ofZ (s .fits .got)) (z .if1 .left) (o .if2 .taken)
     (record { lister = refl; kept = refl; count = e .0; buffer = e .1 .0; then = refl; room = e .1 .1; fit = s .pre .0 })
 
 slice-aggregate-list-part : tie.Need-slice-aggregate-list-part
@@ -71,10 +71,10 @@ returns-3 c =
     let o = c .before .before .before .before .before .before .before .before in
     let z = o .before in
     let s = z .before .before .before .before in
-    turned-part _ _ _ _ _ _ _ _ _ (s .args .got) _ (toZ-ofZ (s .fits .got)) (z .if1 .left) (o .if2 .left) (c .before .before .before .before .list-part .ensures)
+    round-part _ _ _ _ _ _ _ _ _ (s .args .got) _ (toZ-ofZ (s .fits .got)) (z .if1 .left) (o .if2 .left) (c .before .before .before .before .list-part .ensures)
 
-pub turn-spec : {M : Type 1} → statement M
-turn-spec =
+pub list-round-spec : {M : Type 1} → statement M
+list-round-spec =
     tie.close
     (tie.spec
     after-failure-requires

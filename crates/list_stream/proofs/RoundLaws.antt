@@ -1,4 +1,4 @@
--- What a turn leaves, by what the read gave. Assumes nothing.
+-- What a round leaves, by what the read gave. Assumes nothing.
 use Prim.Native.Nat.{ℕ, zero, suc, _+_, _≤_}
 use mathlib.Core.Path.{_≡_, refl, ap, _∙_, subst}
 use mathlib.Core.Bool.{true, false, true≢false}
@@ -19,9 +19,9 @@ use Rattle.text_chunks.proofs.CountLaws.{count-le}
 use Rattle.text_chunks.proofs.PartLaws.{remaining, remaining-drop}
 use Rattle.text_chunks.proofs.ReadingLaws.{failed-place, part-place}
 use Rattle.list_stream.specs.declared.Lister.{Lister}
-use Rattle.list_stream.specs.declared.Outcome.{Outcome}
+use Rattle.list_stream.specs.declared.Round.{Round}
 use Rattle.list_stream.specs.Stream.{reader, progress, Fit}
-use Rattle.list_stream.specs.Turns.{Part, Unfed, Turned}
+use Rattle.list_stream.specs.Rounds.{Part, Unfed, RoundOf}
 
 -- what feeding them leaves
 pub part-fed : (p : Progress Receiver) (bytes before after line : List ℕ) (n read written : ℕ) (l : Lister) (next : Next) → n ≤ length bytes
@@ -46,41 +46,41 @@ part-fed p bytes before after line n read written l next h a s c b w f e =
     }
 
 -- the three cases
-module _ (error : ℤ) (l : Lister) (line line′ chunk before after : List ℕ) (n : ℕ) (r : Outcome) where
-  -- what the turn leaves where the read gave so much
+module _ (error : ℤ) (l : Lister) (line line′ chunk before after : List ℕ) (n : ℕ) (r : Round) where
+  -- what the round leaves where the read gave so much
   abbrev pub Leaves : ℤ → Type 0
-  Leaves got = Turned got error l line line′ chunk n before after r
+  Leaves got = RoundOf got error l line line′ chunk n before after r
 
-  pub turned-failed : (got z : ℤ) → z ≡ got → ltZ z (pos 0) ≡ true → Unfed l line line′ [] before after (afterFailure error) r → Leaves got
-  turned-failed got z e t h = subst Leaves e (go z t)
+  pub round-failed : (got z : ℤ) → z ≡ got → ltZ z (pos 0) ≡ true → Unfed l line line′ [] before after (afterFailure error) r → Leaves got
+  round-failed got z e t h = subst Leaves e (go z t)
     where
       go : (y : ℤ) → ltZ y (pos 0) ≡ true → Leaves y
       go (pos k) u = absurd (omega (arith, ltb-true k 0 u))
       go (negsuc k) u = h
 
-  pub turned-end : (got z : ℤ) → z ≡ got → ltZ z (pos 0) ≡ false → natAbs z ≡ 0
+  pub round-end : (got z : ℤ) → z ≡ got → ltZ z (pos 0) ≡ false → natAbs z ≡ 0
       → Unfed l line line′ (endText reader (progress l line)) before after End r → Leaves got
-  turned-end got z e t o h = subst Leaves e (go z t o)
+  round-end got z e t o h = subst Leaves e (go z t o)
     where
       go : (y : ℤ) → ltZ y (pos 0) ≡ false → natAbs y ≡ 0 → Leaves y
       go (pos zero) u v = h
       go (pos (suc k)) u v = absurd (omega (arith, v))
       go (negsuc k) u v = absurd (true≢false u)
 
-  pub turned-part : (got z : ℤ) → z ≡ got → ltZ z (pos 0) ≡ false → (natAbs z ≡ 0 → ⊥)
+  pub round-part : (got z : ℤ) → z ≡ got → ltZ z (pos 0) ≡ false → (natAbs z ≡ 0 → ⊥)
       → Part (progress l line) line′ (take (natAbs z) chunk) n before after r → Leaves got
-  turned-part got z e t o h = subst Leaves e (go z t o h)
+  round-part got z e t o h = subst Leaves e (go z t o h)
     where
       go : (y : ℤ) → ltZ y (pos 0) ≡ false → (natAbs y ≡ 0 → ⊥) → Part (progress l line) line′ (take (natAbs y) chunk) n before after r → Leaves y
       go (pos zero) u v w = absurd (v refl)
       go (pos (suc k)) u v w = w
       go (negsuc k) u v w = absurd (true≢false u)
 
-  -- WHAT EVERY TURN LEAVES: a lister that goes on, text within the buffer, and a place within the bytes that the read gave
-  pub turned-fits : (got z : ℤ) → z ≡ got → given got ≤ length chunk → n ≤ given got → Leaves z
+  -- WHAT EVERY ROUND LEAVES: a lister that goes on, text within the buffer, and a place within the bytes that the read gave
+  pub round-fits : (got z : ℤ) → z ≡ got → given got ≤ length chunk → n ≤ given got → Leaves z
       → Fit (r .lister) line′ × (r .written ≤ length after) × (placeOf (r .next) ≤ given z)
   unfolding given placeOf
-  turned-fits got z e g h t = go z (omega (arith, g, ap given e)) (omega (arith, h, ap given e)) t
+  round-fits got z e g h t = go z (omega (arith, g, ap given e)) (omega (arith, h, ap given e)) t
     where
       go : (y : ℤ) → given y ≤ length chunk → n ≤ given y → Leaves y
           → Fit (r .lister) line′ × (r .written ≤ length after) × (placeOf (r .next) ≤ given y)
