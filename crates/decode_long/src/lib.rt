@@ -3,7 +3,7 @@
 ghost use mathlib.Core.Path.{_≡_};
 ghost use mathlib.Core.Bool.{true};
 ghost use Prim.Native.Nat.{_+_, _-_, _^_, _<_, _≤_, min};
-ghost use lib.ListN.{length, set, take};
+ghost use lib.ListN.{length, set};
 ghost use Rattle.code_theory.specs.Sum.{at};
 ghost use Rattle.code_theory.specs.Question.{isAlphabet};
 ghost use Rattle.code_theory.specs.Word.{WellFormed};

@@ -2,17 +2,16 @@
 use Prim.Native.Nat.{ℕ, suc, _+_, _<_}
 use mathlib.Core.Path.{_≡_, refl, ap, ap₂, sym, subst, _∙_}
 use mathlib.Core.Logic.{_≢_}
-use mathlib.Core.Bool.{Bool, true, false, cond}
+use mathlib.Core.Bool.{Bool, true, false}
 use mathlib.Core.List.{List}
 use native.Mathlib.Nat.{mod-lt}
 use native.Mathlib.Omega.{arith}
-use lib.Dec.{eqb}
 use lib.ListN.{length}
 use Rattle.code_theory.specs.Sum.{at}
 use Rattle.code_theory.specs.Code.{Symbols}
 use Rattle.code_theory.specs.Modular.{subMod}
-use Rattle.code_theory.specs.Nearest.{isReadable, nearMessage}
-use Rattle.code_theory.specs.Question.{ask, isMessageSize, allBelow, Answer, accepted, refused, answer, after}
+use Rattle.code_theory.specs.Nearest.{nearMessage}
+use Rattle.code_theory.specs.Question.{ask}
 use Rattle.code_theory.proofs.NearestLaws.{read-symbols}
 use Rattle.code_theory.proofs.TurnLaws.{constant-set}
 use Rattle.code_theory.proofs.QuestionLaws.{message-yes, below-all, after-yes, after-no, answer-accepted, answer-refused}

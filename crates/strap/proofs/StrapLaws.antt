@@ -9,7 +9,7 @@ use borrow.Author.Tests.{lt-ltb, le-leb, lt-leb, leb-true}
 use lib.Dec.{leb}
 use lib.ListN.{length, set}
 use Rattle.code_theory.specs.Sum.{at}
-use Rattle.code_theory.specs.Question.{ask, isMessageSize, allBelow, accepted, answer, after}
+use Rattle.code_theory.specs.Question.{ask, isMessageSize, allBelow, accepted}
 use Rattle.code_theory.proofs.QuestionLaws.{ask-yes, message-size, message-yes, message-no, all-below, answer-yes, after-yes}
 use Rattle.strap.specs.Strap.{digit, strapMessage, rateOf, zoneOf, isZone, packRefusal, packAnswer, packMessage, unpackRefusal, unpackAnswer}
 

@@ -1,6 +1,6 @@
 -- Digits of sums, differences, products and bit operations where nothing is carried. Assumes nothing.
 use Prim.Native.Nat.{ℕ, zero, suc, _+_, _*_, _-_, _/_, _%_, _^_, _≤_, _<_}
-use mathlib.Core.Path.{_≡_, refl, ap, ap₂, sym, _∙_, subst}
+use mathlib.Core.Path.{_≡_, ap, ap₂, sym, _∙_, subst}
 use mathlib.Core.Logic.{_⊎_, inl, inr}
 use native.Mathlib.Nat.{not-suc-le-zero, le-of-suc-le-suc, eq-or-lt-of-le, add-comm, mul-comm, mul-assoc, add-mul, one-mul, mul-le-mul-left, mul-le-mul-right, mod-lt}
 use native.Mathlib.Nat.{add-mul-div-right, add-mul-mod-self-right, div-eq-of-lt, mod-eq-of-lt, lt-of-lt-of-le, mul-suc, mul-zero, mul-one, two-mul, mul-add, sub-add-cancel, eq-sub-of-add-eq}

@@ -1,6 +1,6 @@
 -- `compare_decode` meets its contract: the number for each answer of decode.
 use Prim.Native.Nat.{_+_, _*_}
-use mathlib.Core.Path.{_≡_, sym, _∙_, ap₂}
+use mathlib.Core.Path.{sym, _∙_, ap₂}
 use borrow.Author.Needs.{needs}
 use Rattle.code_theory.proofs.QuestionLaws.{after-yes, after-no}
 use Rattle.codec.proofs.Answers.{decode-read, decode-number}

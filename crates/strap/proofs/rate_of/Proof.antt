@@ -1,6 +1,4 @@
 -- `rate_of` meets its contract: each symbol is below 4, so no sum wraps.
-use Prim.Native.Nat.{_<_}
-use mathlib.Core.Path.{_≡_}
 use native.Mathlib.Omega.{arith}
 use Rattle.strap.specs.Strap.{rateOf}
 use Rattle.strap.proofs.StrapLaws.{Coefficients, coefficients, unpackable}
