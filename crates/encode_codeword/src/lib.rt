@@ -1,7 +1,7 @@
 // Writes the word of a message. For words of up to 64 places, the first eight are computed in the bytes of one number; then the word is
-// doubled, eight places at a time: the second half of the first 2^(k+1) places is the first half plus a_k. Longer words start with 64 places,
-// each computed from the bits of its index, and the compiler computes sixteen at once. There is a function for each length, so that the
-// compiler makes a body for each.
+// doubled, eight places at a time: the second half of the first 2^(k+1) places is the first half plus a_k. Longer words start with 64
+// places, each computed from the bits of its index, and the compiler computes sixteen at once. There is a function for each length, so that
+// the compiler makes a body for each.
 ghost use mathlib.Core.Path.{_≡_};
 ghost use mathlib.Core.Bool.{true};
 ghost use Prim.Native.Nat.{ℕ, _+_, _*_, _%_, _<_, _≤_};
@@ -89,8 +89,8 @@ fn double_each(q: u32, n: usize, a: u8, word: &mut [u8])
     }
 }
 
-// Doubles the word of k coefficients to that of k + 1: short words eight places at a time, and long ones in a loop over single places, which
-// the compiler turns into sixteen at a time.
+// Doubles the word of k coefficients to that of k + 1: short words eight places at a time, and long ones in a loop over single places,
+// which the compiler turns into sixteen at a time.
 fn grow(q: u32, k: u32, message: &[u8], word: &mut [u8])
     requires { ⌜ (3 ≤ k) × Fits q (k + 1) (now message) (now word) × Coded q k (now message) (now word) ⌝ }
     ensures { λ r. ⌜ Written q (k + 1) (now (message .entry)) (now (word .entry)) (now (word .exit)) ⌝ }
@@ -164,8 +164,8 @@ fn write_64(q: u32, message: &[u8], word: &mut [u8])
     grow(q, 5, message, word);
 }
 
-// Writes 64 places from 6 coefficients, each place from the bits of its index. The symbols are read before any place is written, so that they
-// can stay in registers.
+// Writes 64 places from 6 coefficients, each place from the bits of its index. The symbols are read before any place is written, so that
+// they can stay in registers.
 fn write_each_of_64(q: u32, s: &[u8], word: &mut [u8])
     requires { ⌜ Fits q 6 (now s) (now word) ⌝ }
     ensures { λ r. ⌜ Written q 6 (now (s .entry)) (now (word .entry)) (now (word .exit)) ⌝ }

@@ -1,6 +1,6 @@
 // The session list: reads the lines of a session from standard input and lists them on standard output. What is listed for the bytes of a
-// read, and what comes next, is decided by list_stream::list_round; here are only the calls of the system. A read or a write that fails ends the
-// list and says so on standard error: a list that is cut short looks like a whole one.
+// read, and what comes next, is decided by list_stream::list_round; here are only the calls of the system. A read or a write that fails
+// ends the list and says so on standard error: a list that is cut short looks like a whole one.
 use libc::STDIN_FILENO;
 use libc::STDOUT_FILENO;
 use text_chunks::Next;

@@ -1,4 +1,5 @@
--- `winner_of` meets its contract. The loop's invariant: a and b are the tallies with v - 1 digits taken off, and r leads among the values below v.
+-- `winner_of` meets its contract. The loop's invariant: a and b are the tallies with v - 1 digits taken off, and r leads among the values
+-- below v.
 use Prim.Native.Nat.{_≤_, _*_, _-_, _/_, _^_}
 use mathlib.Core.Path.{_≡_}
 use native.Mathlib.Omega.{arith}

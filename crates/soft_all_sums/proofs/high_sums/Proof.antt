@@ -1,4 +1,5 @@
--- `high_sums` meets its contract. The outer loop's invariant: the sums of the first 8 b votes; the inner one's: those below k have eight more.
+-- `high_sums` meets its contract. The outer loop's invariant: the sums of the first 8 b votes; the inner one's: those below k have eight
+-- more.
 use Prim.Native.Nat.{_+_, _*_, _-_, _≤_}
 use mathlib.Core.Path.{_≡_, sym, _∙_}
 use native.Mathlib.Omega.{arith}
