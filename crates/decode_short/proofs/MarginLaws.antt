@@ -1,4 +1,4 @@
--- The margin of a message that is near: the coefficients decide it, and their leads hang on the errors alone. Assumes nothing.
+-- The margin of a message that is near: the coefficients decide it, and their leads depend only on the errors. Assumes nothing.
 use Prim.Native.Nat.{ℕ, suc, _^_, _<_}
 use mathlib.Core.Path.{_≡_, refl, sym, _∙_}
 use native.Mathlib.Omega.{arith}
