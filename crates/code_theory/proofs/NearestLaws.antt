@@ -194,6 +194,3 @@ only-read q m y t h only = record {
         go : (b : Bool) → isNear q m y t ≡ b → b ≡ false
         go true e = absurd (d (isNear-true q m y t e))
         go false e = refl
-
-pub winners-read : (q m : ℕ) → 0 < q → (y t : List ℕ) → Symbols q (suc m) t → Winners q m (at t) (at y) → Reads q m y t
-winners-read q m hq y t h w = only-read q m y t h (λ s k n. winners-near q m hq (at s) (k .below) (at y) (at t) (h .below) n w)

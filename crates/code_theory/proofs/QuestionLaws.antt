@@ -23,7 +23,7 @@ or-cases : (a b : Bool) → a || b ≡ true → (a ≡ true) ⊎ (b ≡ true)
 or-cases true b e = inl refl
 or-cases false b e = inr e
 
--- questions that end in 0 have a yes at the first, and the rest ends in 0 too
+-- where questions end in 0, the first is answered yes, and the rest ends in 0 too
 pub ask-yes : (b : Bool) (n rest : ℕ) → ask b (suc n) rest ≡ 0 → (b ≡ true) × (rest ≡ 0)
 unfolding ask
 ask-yes true n rest e = (refl, e)
@@ -38,7 +38,7 @@ pub ask-no : (b : Bool) (n rest : ℕ) → b ≡ false → ask b n rest ≡ n
 unfolding ask
 ask-no b n rest e = ap (λ a. ask a n rest) e
 
--- questions that begin alike, r and s behind them: s counts only where all before it have a yes
+-- questions that begin alike, r and s behind them: s counts only where all before it are answered yes
 pub ask-never : (b : Bool) (n r s : ℕ) → (r ≢ 0 → s ≡ r) → ask b n r ≢ 0 → ask b n s ≡ ask b n r
 unfolding ask
 ask-never true n r s h d = h d

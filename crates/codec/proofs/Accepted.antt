@@ -1,4 +1,4 @@
--- What it says that the questions have a yes. Assumes nothing.
+-- What it says that the questions are answered yes. Assumes nothing.
 use Prim.Native.Nat.{ℕ, suc, _^_, _≤_, _<_}
 use mathlib.Core.Path.{_≡_, refl, ap, sym, _∙_}
 use mathlib.Core.Logic.{_≢_}
@@ -59,7 +59,7 @@ decode-word q m s w e = go (ℕ-discrete (wordRefusal q m s w) 0)
     go (yes z) = z
     go (no d) = sym (decode-never q m s w d) ∙ e
 
--- what Write answers, by the number of its first question with a no
+-- what Write answers, by the number of its first question answered no
 module _ (q m : ℕ) (s w : List ℕ) (n : ℕ) (e : n ≡ encodeRefusal q m s w) where
   pub encode-refused : n ≢ 0 → refused n ≡ encodeAnswer q m s w
   unfolding encodeAnswer
@@ -72,7 +72,7 @@ module _ (q m : ℕ) (s w : List ℕ) (n : ℕ) (e : n ≡ encodeRefusal q m s w
 -- a word that Read goes on to read, with its message slice
 pub record Readable (q m : ℕ) (s w : List ℕ) : Type 0 where
   pub sized : Sized q m s
-  pub received : WellFormed q m w
+  pub wellFormed : WellFormed q m w
 
 pub readable : (q m : ℕ) (s w : List ℕ) → wordRefusal q m s w ≡ 0 → Readable q m s w
 readable q m s w e = go (ℕ-discrete (sizeRefusal q m s) 0)
@@ -83,4 +83,4 @@ readable q m s w e = go (ℕ-discrete (sizeRefusal q m s) 0)
         let (a, f) = ask-yes (isWordSize m w) 6 _ (sym (word-later q m s w z) ∙ e) in
         let (b, g) = ask-yes (allBelow q w) 7 _ f in
         let y = sized q m s z in
-        record { sized = y; received = record { alphabet = y .alphabet; low = y .low; high = y .high; symbols = symbols q (2 ^ m) w (word-size m w a) b } }
+        record { sized = y; wellFormed = record { alphabet = y .alphabet; low = y .low; high = y .high; symbols = symbols q (2 ^ m) w (word-size m w a) b } }

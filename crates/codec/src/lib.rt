@@ -30,7 +30,7 @@ pub fn encode(q: u32, m: u32, message: &[u8], word: &mut [u8]) -> Encoded
     Encoded::Written
 }
 
-// Questions 1, 2 and 5: the number of the first with a no, 0 where each has a yes.
+// Questions 1, 2 and 5: the first answered no, or 0.
 fn size_refusal(q: u32, m: u32, message: &[u8]) -> u32
     ensures { λ r. ⌜ r ≡ sizeRefusal q m (now (message .entry)) ⌝ }
 {
@@ -46,7 +46,7 @@ fn size_refusal(q: u32, m: u32, message: &[u8]) -> u32
     0
 }
 
-// The number of the first question of Read before 9 with a no, 0 where each has a yes.
+// The first question of Read before 9 answered no, or 0.
 fn word_refusal(q: u32, m: u32, message: &[u8], word: &[u8]) -> u32
     ensures { λ r. ⌜ r ≡ wordRefusal q m (now (message .entry)) (now (word .entry)) ⌝ }
 {

@@ -75,7 +75,7 @@ pub first-fits : (q m : ℕ) (w s c : List ℕ) (low : ℕ) → WellFormed q m w
 first-fits q m w s c low r t e = record {
   alphabet = r .alphabet;
   low = r .low;
-  variables = r .high;
+  high = r .high;
   size = omega (arith, t .size, r .high);
   below = below;
   room = e;

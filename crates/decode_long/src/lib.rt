@@ -1,5 +1,5 @@
-// Reading words of 32 places and more by majority-logic decoding (source document 001, section 3.1): all votes are counted, sixteen at a
-// time, and the winners are the only message that can be near the word.
+// Reading words of 64 places and more by majority-logic decoding (source document 001, section 3.1): all votes are counted, sixteen at a
+// time, and the winners are the only message that can be near the word. It reads 32 places too, which decode_short does faster.
 ghost use mathlib.Core.Path.{_≡_};
 ghost use mathlib.Core.Bool.{true};
 ghost use Prim.Native.Nat.{_+_, _-_, _^_, _<_, _≤_, min};

@@ -146,7 +146,7 @@ module _ (q m k : ℕ) (x : List ℕ) (v : Votes q m x) (h : k < m) where
     size = v .size;
     symbols = v .symbols;
     few = omega (arith, few-ballots);
-    variables = omega (arith, v .high);
+    coefficient = omega (arith, v .high);
     partner = λ g. omega (arith, far-partner j l g, power, few-ballots);
   }
 

@@ -43,7 +43,7 @@ leads-next i f s n o x s′ n′ o′ w e t = rw add-one (go (decLt n x))
 
     go : Dec (n < x) → Leads (suc i) f s′ n′ o′
     go (yes l) =
-        let a : s′ ≡ i = t .ahead l in
+        let a : s′ ≡ i = t .wins l in
         let h : mostOther i i f ≤ n = mostOther-le i i f n (λ u m d. w .top u m) in
         let g : o′ ≡ mostOther i i f = omega (arith, t .other, next-le i f s n o w, h, w .own, le-mostOther i i f s (w .inside) (λ z. absurd (omega (arith, w .inside, z)))) in
         record {
@@ -53,7 +53,7 @@ leads-next i f s n o x s′ n′ o′ w e t = rw add-one (go (decLt n x))
           other = g ∙ sym (most-self i f) ∙ ap (λ z. mostOther (suc i) z f) (sym a);
         }
     go (no d) =
-        let a : s′ ≡ s = t .behind (omega arith) in
+        let a : s′ ≡ s = t .stays (omega arith) in
         let g : o′ ≡ max (mostOther i s f) (f i) = omega (arith, t .other, w .other, e) in
         record {
           inside = omega (arith, w .inside, a);

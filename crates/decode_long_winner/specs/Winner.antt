@@ -13,8 +13,8 @@ pub record Leads (n : ℕ) (f : ℕ → ℕ) (symbol votes next : ℕ) : Type 0 
 
 -- the winner so far after x votes for v: v leads where it has more than the leader
 pub record Updates (symbol votes next v x symbol′ votes′ next′ : ℕ) : Type 0 where
-  pub ahead : votes < x → symbol′ ≡ v
-  pub behind : x ≤ votes → symbol′ ≡ symbol
+  pub wins : votes < x → symbol′ ≡ v
+  pub stays : x ≤ votes → symbol′ ≡ symbol
   pub most : votes′ ≡ max votes x
   pub other : next′ ≡ max next (min votes x)
 

@@ -1,6 +1,8 @@
 // The candidate of a word of 4, 8, 16 or 32 places: the only message that can be near the word. For each symbol an odd number of votes is
 // taken, and the symbol is the value that more than half of them have; the votes for the other values are not counted. The word stands in
 // the four-bit lanes of one number, or of two, as swar_lanes packs it.
+use swar_lanes::apart;
+use swar_lanes::votes_in;
 ghost use mathlib.Core.Path.{_≡_};
 ghost use mathlib.Core.Bool.{true};
 ghost use Prim.Native.Nat.{_%_, _^_, _<_};
@@ -31,10 +33,7 @@ fn three(q: u64, d: u64, i: u32, j: u32) -> u64
     requires { ⌜ (isAlphabet q ≡ true) × (i < 4) × (j < 4) ⌝ }
     ensures { λ r. ⌜ Chosen q 2 (threeOf d (2 ^ laneBit i) (2 ^ laneBit j)) r ⌝ }
 {
-    symbol(
-        q,
-        swar_majority::most_of_3(d, swar_lanes::apart(i), swar_lanes::apart(j)),
-    )
+    symbol(q, swar_majority::most_of_3(d, apart(i), apart(j)))
 }
 
 // The symbol that four or more of seven lanes have: those of the places with none, one or two of the bits i, j and k set.
@@ -42,15 +41,7 @@ fn seven(q: u64, d: u64, i: u32, j: u32, k: u32) -> u64
     requires { ⌜ (isAlphabet q ≡ true) × (i < j) × (j < k) × (k < 4) ⌝ }
     ensures { λ r. ⌜ Chosen q 4 (sevenOf d (2 ^ laneBit i) (2 ^ laneBit j) (2 ^ laneBit k)) r ⌝ }
 {
-    symbol(
-        q,
-        swar_majority::most_of_7(
-            d,
-            swar_lanes::apart(i),
-            swar_lanes::apart(j),
-            swar_lanes::apart(k),
-        ),
-    )
+    symbol(q, swar_majority::most_of_7(d, apart(i), apart(j), apart(k)))
 }
 
 // The symbol that eight or more of fifteen lanes have: these seven lanes of d, the same seven of e, and the lane of e whose place has all
@@ -61,13 +52,7 @@ fn fifteen(q: u64, d: u64, e: u64, i: u32, j: u32, k: u32) -> u64
 {
     symbol(
         q,
-        swar_majority::most_of_15(
-            d,
-            e,
-            swar_lanes::apart(i),
-            swar_lanes::apart(j),
-            swar_lanes::apart(k),
-        ),
+        swar_majority::most_of_15(d, e, apart(i), apart(j), apart(k)),
     )
 }
 
@@ -86,8 +71,8 @@ pub fn candidate_4(q: u64, x: u64) -> Candidate
     requires { ⌜ (isAlphabet q ≡ true) × Below q x ⌝ }
     ensures { λ r. ⌜ (r .c2 ≡ 0) × (r .c3 ≡ 0) × (r .c4 ≡ 0) × CandidateOf q 2 x (messageOf r) ⌝ }
 {
-    let c0 = symbol(q, swar_lanes::votes_in(q, 0, x));
-    let c1 = symbol(q, swar_lanes::votes_in(q, 1, x));
+    let c0 = symbol(q, votes_in(q, 0, x));
+    let c1 = symbol(q, votes_in(q, 1, x));
     Candidate {
         constant: symbol(q, x),
         c0,
@@ -103,9 +88,9 @@ pub fn candidate_8(q: u64, x: u64) -> Candidate
     requires { ⌜ (isAlphabet q ≡ true) × Below q x ⌝ }
     ensures { λ r. ⌜ (r .c3 ≡ 0) × (r .c4 ≡ 0) × CandidateOf q 3 x (messageOf r) ⌝ }
 {
-    let c0 = three(q, swar_lanes::votes_in(q, 0, x), 1, 2);
-    let c1 = three(q, swar_lanes::votes_in(q, 1, x), 0, 2);
-    let c2 = three(q, swar_lanes::votes_in(q, 2, x), 0, 1);
+    let c0 = three(q, votes_in(q, 0, x), 1, 2);
+    let c1 = three(q, votes_in(q, 1, x), 0, 2);
+    let c2 = three(q, votes_in(q, 2, x), 0, 1);
     let left = rest(q, x, c0, c1, c2, 0);
     Candidate {
         constant: three(q, left, 0, 1),
@@ -122,10 +107,10 @@ pub fn candidate_16(q: u64, x: u64) -> Candidate
     requires { ⌜ (isAlphabet q ≡ true) × Below q x ⌝ }
     ensures { λ r. ⌜ (r .c4 ≡ 0) × CandidateOf q 4 x (messageOf r) ⌝ }
 {
-    let c0 = seven(q, swar_lanes::votes_in(q, 0, x), 1, 2, 3);
-    let c1 = seven(q, swar_lanes::votes_in(q, 1, x), 0, 2, 3);
-    let c2 = seven(q, swar_lanes::votes_in(q, 2, x), 0, 1, 3);
-    let c3 = seven(q, swar_lanes::votes_in(q, 3, x), 0, 1, 2);
+    let c0 = seven(q, votes_in(q, 0, x), 1, 2, 3);
+    let c1 = seven(q, votes_in(q, 1, x), 0, 2, 3);
+    let c2 = seven(q, votes_in(q, 2, x), 0, 1, 3);
+    let c3 = seven(q, votes_in(q, 3, x), 0, 1, 2);
     let left = rest(q, x, c0, c1, c2, c3);
     Candidate {
         constant: seven(q, left, 0, 1, 2),
@@ -142,38 +127,10 @@ pub fn candidate_32(q: u64, x: u64, y: u64) -> Candidate
     requires { ⌜ (isAlphabet q ≡ true) × Below q x × Below q y ⌝ }
     ensures { λ r. ⌜ CandidateOfBoth q 5 x y (messageOf r) ⌝ }
 {
-    let c0 = fifteen(
-        q,
-        swar_lanes::votes_in(q, 0, x),
-        swar_lanes::votes_in(q, 0, y),
-        1,
-        2,
-        3,
-    );
-    let c1 = fifteen(
-        q,
-        swar_lanes::votes_in(q, 1, x),
-        swar_lanes::votes_in(q, 1, y),
-        0,
-        2,
-        3,
-    );
-    let c2 = fifteen(
-        q,
-        swar_lanes::votes_in(q, 2, x),
-        swar_lanes::votes_in(q, 2, y),
-        0,
-        1,
-        3,
-    );
-    let c3 = fifteen(
-        q,
-        swar_lanes::votes_in(q, 3, x),
-        swar_lanes::votes_in(q, 3, y),
-        0,
-        1,
-        2,
-    );
+    let c0 = fifteen(q, votes_in(q, 0, x), votes_in(q, 0, y), 1, 2, 3);
+    let c1 = fifteen(q, votes_in(q, 1, x), votes_in(q, 1, y), 0, 2, 3);
+    let c2 = fifteen(q, votes_in(q, 2, x), votes_in(q, 2, y), 0, 1, 3);
+    let c3 = fifteen(q, votes_in(q, 3, x), votes_in(q, 3, y), 0, 1, 2);
     // For the last coefficient, the partner of a place in x stands in the same lane of y.
     let d = swar_lanes::less(q, y, x);
     let c4 = fifteen(q, d, swar_lanes::partners(3, d), 0, 1, 2);

@@ -43,7 +43,7 @@ max-le-sum (suc n) f = omega (arith, max-le-sum n f)
 
 -- THE LOOP at v: b is the number of votes for the values from 1 to v - 1, and m the most for one of them
 module _ (q v b m : ℕ) (f : ℕ → ℕ) (eb : b ≡ sumFrom1 (v - 1) f) (em : m ≡ maxFrom1 (v - 1) f) where
-  -- a turn of the loop adds the n votes for v
+  -- a pass of the loop adds the n votes for v
   pub step-sum : (n : ℕ) → 1 ≤ v → n ≡ f v → b + n ≡ sumFrom1 (v + 1 - 1) f
   step-sum n h e = ap₂ (λ x y. x + y) eb e ∙ sym (sum-more v f h)
 

@@ -57,13 +57,13 @@ left q y a l h = sym (subMod-is q y ((a + l) % q) (subMod q (subMod q y (l % q))
     back : (subMod q (subMod q y (l % q)) a + (a + l) % q) % q ≡ y % q
     back =
         ap (λ x. x % q) (add-comm (subMod q (subMod q y (l % q)) a) ((a + l) % q)) ∙ mod-add-mod (a + l) q (subMod q (subMod q y (l % q)) a)
-        ∙ turned (subMod q (subMod q y (l % q)) a) a l
+        ∙ reordered (subMod q (subMod q y (l % q)) a) a l
         ∙ sym (mod-add-mod (subMod q (subMod q y (l % q)) a + a) q l)
         ∙ ap (λ x. (x + l) % q) (add-subMod q (subMod q y (l % q)) a h ∙ mod-eq-of-lt (subMod-lt q y (l % q) h) ∙ subMod-mod q y l)
         ∙ add-subMod q y l h
       where
-        turned : (x a l : ℕ) → (a + l + x) % q ≡ (x + a + l) % q
-        turned x a l = let e : a + l + x ≡ x + a + l = omega arith in ap (λ b. b % q) e
+        reordered : (x a l : ℕ) → (a + l + x) % q ≡ (x + a + l) % q
+        reordered x a l = let e : a + l + x ≡ x + a + l = omega arith in ap (λ b. b % q) e
 
 -- a place has an error or it has none
 right-or-wrong : (x : ℕ) → same x 0 + differ 0 x ≡ 1

@@ -64,7 +64,7 @@ all-fits q m s w e =
     let room = word-size m w (ask-yes (isWordSize m w) 6 _ e4 .0) in
     let (low, high) = variables-bounds m b in
     let size = message-size m s c in
-    (record { alphabet = a; low = low; variables = high; size = omega (arith, size); below = symbols q (suc m) s size d .below; room = omega (arith, room) }, room)
+    (record { alphabet = a; low = low; high = high; size = omega (arith, size); below = symbols q (suc m) s size d .below; room = omega (arith, room) }, room)
 
 -- where all questions are answered yes, Write leaves the word of the message
 pub word-written : (q m : ℕ) (s w v : List ℕ) → encodeRefusal q m s w ≡ 0 → v ≡ codeword q m s → (0 ≡ encodeRefusal q m s w) × (v ≡ encodeWord q m s w)

@@ -99,7 +99,7 @@ module _ (q k j len : ℕ) (s w : List ℕ) (e : k ≡ j) (f : len ≡ 2 ^ j) (d
         h .alphabet,
         l,
         omega (arith, twice, h .room),
-        omega (arith, twice, pow-mono {i = k + 1} {j = 8} (h .variables)),
+        omega (arith, twice, pow-mono {i = k + 1} {j = 8} (h .high)),
         λ i l. coded-below q k s w (omega arith) d i (omega (arith, f, ap (λ x. 2 ^ x) e)),
       )
 
@@ -120,7 +120,7 @@ pub fits-less : (q m j : ℕ) (s w v : List ℕ) → 2 ≤ j → j ≤ m → len
 fits-less q m j s w v t l e h = record {
   alphabet = h .alphabet;
   low = t;
-  variables = omega (arith, h .variables);
+  high = omega (arith, h .high);
   size = omega (arith, h .size);
   below = λ k i. h .below k (omega arith);
   room = omega (arith, h .room, pow-mono {i = j} {j = m} l);

@@ -12,7 +12,7 @@ use Rattle.code_theory.specs.Question.{isAlphabet}
 pub record Fits (q m : ℕ) (s w : List ℕ) : Type 0 where
   pub alphabet : isAlphabet q ≡ true
   pub low : 2 ≤ m
-  pub variables : m ≤ 8
+  pub high : m ≤ 8
   pub size : m < length s
   pub below : (k : ℕ) → k < suc m → at s k < q
   pub room : 2 ^ m ≤ length w

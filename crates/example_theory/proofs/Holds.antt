@@ -13,11 +13,11 @@ use Rattle.codec.specs.Codec.{encodeRefusal, encodeAnswer, encodeWord, decodeRe
 use Rattle.session_slot.specs.Slot.{slotTime}
 use Rattle.session_sender.specs.Sending.{soundSender, sendRefusal, sendAnswer, sendConstant, sendSession}
 use Rattle.session_receiver.specs.Receiving.{isBelow, isMissing, soundReceiver, receiveRefusal, missRefusal, receiveConstant, zoneFrom, receiveDelivery, zoneValues, deliveryValues, receiveAnswer, nextReceiver, afterReceive, receiveSession, missAnswer, missSession}
-use Rattle.strap.specs.Strap.{digit, strapMessage, isZone, packRefusal, packAnswer, packMessage}
+use Rattle.strap.specs.Strap.{baseFour, strapMessage, isZone, packRefusal, packAnswer, packMessage}
 use Rattle.soft_theory.specs.Decision.{magnitude, isDecisive, decideBy, decide}
 use Rattle.example_theory.specs.Case.{votesInOrder, Holds, AllHold}
 use Rattle.example_theory.specs.Examples.{examples}
 
 pub examples-hold : AllHold examples
-unfolding sum tabulate bit ifClear subMod same differ linear symbolAt codeword distance count vote votes residue residues tally mostOther lead least margin prefixed messages firstOr find isFound orEmpty isNear nearest isReadable nearMessage nearDistance nearMargin ask isAlphabet isVariables isMessageSize isWordSize allBelow answer after encodeRefusal encodeAnswer encodeWord decodeRefusal decodeAnswer decodeMessage slotTime soundSender sendRefusal sendAnswer sendConstant sendSession isBelow isMissing soundReceiver receiveRefusal missRefusal receiveConstant zoneFrom receiveDelivery zoneValues deliveryValues receiveAnswer nextReceiver afterReceive receiveSession missAnswer missSession digit strapMessage isZone packRefusal packAnswer packMessage magnitude isDecisive decideBy decide votesInOrder Holds AllHold
+unfolding sum tabulate bit ifClear subMod same differ linear symbolAt codeword distance count vote votes residue residues tally mostOther lead least margin prefixed messages firstOr find isFound orEmpty isNear nearest isReadable nearMessage nearDistance nearMargin ask isAlphabet isVariables isMessageSize isWordSize allBelow answer after encodeRefusal encodeAnswer encodeWord decodeRefusal decodeAnswer decodeMessage slotTime soundSender sendRefusal sendAnswer sendConstant sendSession isBelow isMissing soundReceiver receiveRefusal missRefusal receiveConstant zoneFrom receiveDelivery zoneValues deliveryValues receiveAnswer nextReceiver afterReceive receiveSession missAnswer missSession baseFour strapMessage isZone packRefusal packAnswer packMessage magnitude isDecisive decideBy decide votesInOrder Holds AllHold
 examples-hold = ((refl, refl), ((refl, refl), (refl, ((refl, refl), ((refl, refl), (((refl, refl), (refl, refl)), ((refl, refl), ((refl, refl), ((refl, refl), ((refl, refl), ((refl, (refl, refl)), ((((refl, refl), (refl, refl)), (((refl, refl), (refl, refl)), ((refl, refl), (refl, refl)))), tt))))))))))))

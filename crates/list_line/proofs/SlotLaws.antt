@@ -15,10 +15,7 @@ use Rattle.code_theory.specs.Question.{ask}
 use Rattle.code_theory.proofs.NearestLaws.{read-symbols}
 use Rattle.code_theory.proofs.TurnLaws.{constant-set}
 use Rattle.code_theory.proofs.QuestionLaws.{message-yes, below-all, after-yes, after-no, answer-accepted, answer-refused}
-use Rattle.strap.specs.Strap.{rateOf, unpackRefusal, unpackAnswer, unpacked}
-use Rattle.strap.specs.declared.Report.{Report}
-use Rattle.strap.specs.declared.Unpacked.{Unpacked}
-use Rattle.strap.specs.declared.Unpacked.the-variants as U
+use Rattle.strap.specs.Strap.{rateOf, unpackRefusal}
 use Rattle.text_buffer.specs.Text.{put}
 use Rattle.text_buffer.proofs.PutLaws.{Written, written-as}
 use Rattle.session_receiver.specs.Receiving.{receiveRefusal, receiveConstant, zoneFrom, zoneSymbol, receiveDelivery, deliveryValues, receiveAnswer, receiveMessage, receiveSession, nextReceiver, received, receivedSession, missRefusal, missAnswer, missSession, missed, missedSession}
@@ -174,17 +171,6 @@ doubtful-room s m w n = receive-doubtful s m w n .0 .room
 
 pub missed-room : (s : Receiver) → missRefusal s ≡ 0 → s .used < slots
 missed-room s n = miss-yes s n .room
-
--- the rate of a message that can be unpacked
-pub reports : (t : List ℕ) (x : Unpacked) (report : Report) → unpackRefusal t ≡ 0 → unpacked x ≡ unpackAnswer t → x ≡ U.Report report → report .rate ≡ rateOf t
-unfolding unpacked unpackAnswer
-reports t x report n a c =
-    let e = answer-accepted (unpackRefusal t) _ _ (ap unpacked (sym c) ∙ a) .1 in
-    ap (λ l. at l 0) e
-
-pub never-refused : (t : List ℕ) (x : Unpacked) (number : ℕ) → unpackRefusal t ≡ 0 → unpacked x ≡ unpackAnswer t → x ≡ U.Refused number → ⊥
-unfolding unpacked unpackAnswer
-never-refused t x number n a c = answer-refused (unpackRefusal t) number _ (ap unpacked (sym c) ∙ a) .1 n
 
 -- a line that was told and printed, as the contracts say it
 abbrev pub Printed : Receiver → Line → Receiver → Bool → List ℕ → ℕ → ℕ → List ℕ → Type 0

@@ -31,10 +31,10 @@ struct Step {
 }
 
 // What a chunk leaves: the lister, how many of its bytes were read, and how many bytes of output they brought.
-pub struct Fed {
-    pub lister: Lister,
-    pub read: usize,
-    pub written: usize,
+struct Fed {
+    lister: Lister,
+    read: usize,
+    written: usize,
 }
 
 // Opens the session.
@@ -123,7 +123,7 @@ fn read_line(lister: Lister, line: &mut [u8], bytes: &[u8], out: &mut [u8], at: 
 }
 
 // Lists the bytes of a chunk, up to its end, the end of the reading, or the byte before which the buffer has no room for a line.
-pub fn feed(lister: Lister, line: &mut [u8], chunk: &[u8], out: &mut [u8]) -> Fed
+fn feed(lister: Lister, line: &mut [u8], chunk: &[u8], out: &mut [u8]) -> Fed
     requires { ⌜ Fit lister (now line) ⌝ }
     ensures state { λ r. ⌜ progress (r .lister) (now (line .exit)) ≡ fed reader (progress lister (now (line .entry))) (take (r .read) (now (chunk .entry))) ⌝ }
     ensures count { λ r. ⌜ r .written ≡ length (fedText reader (progress lister (now (line .entry))) (take (r .read) (now (chunk .entry)))) ⌝ }
@@ -164,7 +164,7 @@ pub fn feed(lister: Lister, line: &mut [u8], chunk: &[u8], out: &mut [u8]) -> Fe
 }
 
 // Lists the last line, which lacks its newline, at the end of the input.
-pub fn finish(lister: Lister, line: &[u8], out: &mut [u8]) -> usize
+fn finish(lister: Lister, line: &[u8], out: &mut [u8]) -> usize
     requires { ⌜ Fit lister (now line) × (64 ≤ length (now out)) ⌝ }
     ensures count { λ r. ⌜ r ≡ length (endText reader (progress lister (now (line .entry)))) ⌝ }
     ensures buffer { λ r. ⌜ now (out .exit) ≡ put (now (out .entry)) 0 (endText reader (progress lister (now (line .entry)))) ⌝ }

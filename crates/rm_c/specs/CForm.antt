@@ -5,7 +5,7 @@ use Rattle.code_theory.specs.Question.{after}
 use Rattle.code_theory.specs.Nearest.{nearDistance}
 use Rattle.codec.specs.Codec.{encodeRefusal, decodeRefusal}
 
--- the number for a call whose questions give n, and v where they all have a yes
+-- the number for a call whose questions give n, and v where they all are answered yes
 unfoldable pub numbered : ℕ → ℕ → ℕ
 numbered n v = after n v n
 

@@ -47,7 +47,7 @@ module _ (q m constant placed : ℕ) (message word w₀ w : List ℕ) (s : Senda
   copy-fits b e = record {
     alphabet = s .alphabet;
     low = variables-bounds m (s .variables) .0;
-    variables = variables-bounds m (s .variables) .1;
+    high = variables-bounds m (s .variables) .1;
     size = omega (arith, p .size, variables-bounds m (s .variables));
     below = λ k l. rw (p .each k (omega (arith, s .symbols .size))) (constant-set q m placed message b (s .symbols) .below k l);
     room = omega (arith, s .size);

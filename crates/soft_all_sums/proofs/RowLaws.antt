@@ -23,7 +23,7 @@ use Rattle.soft_vote_sums.specs.Work.{Samples, voteAt}
 use Rattle.soft_all_sums.specs.Work.{none, nones, zeros, held, inRow, Put, Rows, votesOf, sumsOf, Past, SumsTo, Stored, AllSums}
 use Rattle.soft_vote_sums.proofs.Steps.{votes-none, vote-next, even-samples}
 
--- ---- four places on end stand at four indices on end
+-- ---- four consecutive places stand at four consecutive indices
 quarter : (k j : ℕ) → nthClear (suc (suc k)) j ≡ j + j / 4 / 2 ^ k * 2 ^ suc (suc k)
 unfolding nthClear
 quarter k j = let e : 4 * 2 ^ k ≡ 2 ^ suc (suc k) = omega arith in ap (λ n. j + n * 2 ^ suc (suc k)) (sym (div-div-eq-div-mul j 4 (2 ^ k) ∙ ap (λ n. j / n) e))

@@ -10,7 +10,7 @@ ghost use Rattle.soft_vote_sums.specs.Pair.{pair};
 ghost use Rattle.soft_vote_sums.specs.Work.{Samples};
 ghost use Rattle.soft_all_sums.specs.Work.{Put, Rows, zeros, SumsTo, votesOf, sumsOf, Stored, AllSums};
 
-// The votes at eight places of coefficient k from 8 b on, put into its row. Four places on end stand at four indices on end.
+// The votes at eight places of coefficient k from 8 b on, put into its row. Four consecutive places stand at four consecutive indices.
 fn put_row(m: u32, k: u32, b: usize, re: &[f32], im: &[f32], rows: &mut [f32])
     requires { ⌜ Samples m (now re) (now im) × (2 ≤ k) × (k < m) × (b < length (now re) / 16) × (length (now rows) ≡ 128) ⌝ }
     ensures { λ _. ⌜ Put (now (re .entry)) (now (im .entry)) k b (now (rows .entry)) (now (rows .exit)) 8 ⌝ }
@@ -34,7 +34,7 @@ fn put_rows(m: u32, b: usize, re: &[f32], im: &[f32], rows: &mut [f32])
     }
 }
 
-// The sums of coefficient k with the eight votes of its row more.
+// The sums of coefficient k plus the eight votes of its row.
 fn add_row(m: u32, k: u32, b: usize, re: &[f32], im: &[f32], rows: &[f32], from: Sums) -> Sums
     requires { ⌜ (m ≤ 8) × (2 ≤ k) × (k < m) × Rows (now re) (now im) b (now rows) m × (pair from ≡ votesTo f32 k (sample f32 (now re) (now im)) (8 * b)) ⌝ }
     ensures { λ r. ⌜ pair r ≡ votesTo f32 k (sample f32 (now (re .entry)) (now (im .entry))) (8 * (b + 1)) ⌝ }
@@ -108,7 +108,7 @@ fn many_sums(m: u32, re: &[f32], im: &[f32]) -> [Sums; 8]
     low_sums(m, low_end(m), re, im, high)
 }
 
-// The sums of coefficient k with the vote at place j more.
+// The sums of coefficient k plus the vote at place j.
 fn more(m: u32, k: u32, j: usize, s: Sums, re: &[f32], im: &[f32]) -> Sums
     requires { ⌜ Samples m (now re) (now im) × (k < m) × (j < length (now re) / 2) × (pair s ≡ votesOf (now re) (now im) j k) ⌝ }
     ensures { λ r. ⌜ pair r ≡ votesOf (now (re .entry)) (now (im .entry)) (j + 1) k ⌝ }
@@ -138,7 +138,7 @@ fn sixteen_sums(re: &[f32], im: &[f32]) -> [Sums; 8]
     [a, b, c, d, none, none, none, none]
 }
 
-// The same for eight samples.
+// The sums of all three coefficients of eight samples, in one loop.
 fn eight_sums(re: &[f32], im: &[f32]) -> [Sums; 8]
     requires { ⌜ Samples 3 (now re) (now im) ⌝ }
     ensures { λ r. ⌜ AllSums 3 (now (re .entry)) (now (im .entry)) r ⌝ }

@@ -28,7 +28,7 @@ pub turns-fit : (q m : ℕ) (found t : List ℕ) → isAlphabet q ≡ true → 4
 turns-fit q m found t a b l h c e = record {
   alphabet = a;
   low = l;
-  variables = h;
+  high = h;
   size = omega (arith, c .size);
   below = below;
   room = omega (arith, e, pow-mono {i = m} {j = 8} h);

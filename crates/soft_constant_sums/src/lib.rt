@@ -41,7 +41,7 @@ fn turned_by(t: u8, i: usize, re: &[f32], im: &[f32]) -> Sums
     turn_back(t, soft_vote_sums::part(re, i), soft_vote_sums::part(im, i))
 }
 
-// The same by the quarter turns that stand at index i.
+// The sample at index i turned back by the quarter turns that stand at that index.
 fn turned(i: usize, turns: &[u8], re: &[f32], im: &[f32]) -> Sums
     requires { ⌜ (i < length (now turns)) × (i < length (now re)) × (i < length (now im)) × (at (now turns) i < 4) ⌝ }
     ensures { λ r. ⌜ pair r ≡ turnBack f32 (at (now (turns .entry)) i) (sample f32 (now (re .entry)) (now (im .entry)) i) ⌝ }

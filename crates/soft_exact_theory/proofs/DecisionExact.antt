@@ -30,9 +30,9 @@ magnitude-abs a = go (integers .lt a (pos 0))
 
 -- three times the sums stays below 2 ^ 24
 module _ (l s : Float) (a b : ℤ) (L : Whole l a) (S : Whole s b) (h : 3 * natAbs a ≤ 16777216) (k : 3 * natAbs b ≤ 16777216) where
-  clear-whole : isDecisive f32 l s ≡ isDecisive integers a b
+  decisive-whole : isDecisive f32 l s ≡ isDecisive integers a b
   unfolding isDecisive
-  clear-whole = ap₂ _&&_ (whole-lt (f32 .number 0) l (pos 0) a (whole-number 0 (omega arith)) L)
+  decisive-whole = ap₂ _&&_ (whole-lt (f32 .number 0) l (pos 0) a (whole-number 0 (omega arith)) L)
       (whole-le _ _ (pos 3 *ℤ b) (pos 2 *ℤ a)
       (whole-mul (f32 .number 3) s (pos 3) b (whole-number 3 (omega arith)) S (omega (arith, abs-mul (pos 3) b)))
       (whole-mul (f32 .number 2) l (pos 2) a (whole-number 2 (omega arith)) L (omega (arith, abs-mul (pos 2) a))))
@@ -42,7 +42,7 @@ module _ (x : Complex Float) (z : Complex ℤ) (w : WholeParts x z) (B : ℕ) (h
   unfolding decideBy Same
   by-whole l s a b p n L S i j =
       rw (
-        clear-whole (magnitude f32 l) (magnitude f32 s) (magnitude integers a) (magnitude integers b) (magnitude-whole l a L) (magnitude-whole s b S)
+        decisive-whole (magnitude f32 l) (magnitude f32 s) (magnitude integers a) (magnitude integers b) (magnitude-whole l a L) (magnitude-whole s b S)
             (omega (arith, magnitude-abs a)) (omega (arith, magnitude-abs b)),
         whole-lt (f32 .number 0) l (pos 0) a (whole-number 0 (omega arith)) L,
       )

@@ -85,7 +85,7 @@ unfolding magnitude
 magnitude-is (pos n) = rw (le-ltb n 0 (omega arith))
 magnitude-is (negsuc n) = refl
 
--- by the sum l of the larger magnitude, where it is clear
+-- by the sum l of the larger magnitude, where it is decisive
 by-sure : (l s : ℤ) (a b : ℕ) (z : Complex ℤ) (u : Bool) → 0 < natAbs l → 3 * natAbs s ≤ 2 * natAbs l → ltZ (pos 0) l ≡ u → decideBy integers l s a b z ≡ sure (cond u a b) z
 unfolding decideBy isDecisive
 by-sure l s a b z u h k e = rw (magnitude-is l, magnitude-is s, lt-ltb 0 (natAbs l) h, le-leb (3 * natAbs s) (2 * natAbs l) k, e)

@@ -23,12 +23,12 @@ pub record Whole (x : Float) (z : ℤ) : Type 0 where
   pub value : HasValue x minus size 1
   pub number : z ≡ signed minus size
 
--- every element of a list is
+-- every float of a list is a whole number
 pub record Wholes (x : List Float) (z : List ℤ) : Type 0 where
   pub long : length x ≡ length z
   pub each : (i : ℕ) → i < length x → Whole (getD x i (f32 .number 0)) (getD z i (integers .number 0))
 
--- both parts are
+-- both parts of a complex number are whole numbers
 pub record WholeParts (x : Complex Float) (z : Complex ℤ) : Type 0 where
   pub re : Whole (x .re) (z .re)
   pub im : Whole (x .im) (z .im)

@@ -1,1 +1,1 @@
-// Whole samples: the f32 definitions are exact on them, and clean words are read. Theorems about the definitions in samples; no function.
+// Whole samples: the f32 definitions are exact on them, and clean words are read. Theorems about the definitions in soft_theory; no function.

@@ -28,13 +28,13 @@ pub nth-small : (k j : ℕ) → j < 128 → nthClear k j < 256
 unfolding nthClear
 nth-small k j l = omega (arith, div-mul-le-self j (2 ^ k))
 
--- vote j of coefficient k is one of the 128 at most, at the index i with its partner gap = 2 ^ k above
+-- vote j of coefficient k is one of the 128 at most, at the index i with its partner step = 2 ^ k above
 module _ (m k j : ℕ) (re im : List Float) (s : Samples m re im) (h : k < m) (l : j < length re / 2) where
   pub few-votes : (k < 8) × (j < 128)
   few-votes = omega (arith, s .high, s .reals, pow-mono {i = m} {j = 8} (s .high))
 
-  pub partner-room : (i gap : ℕ) → i ≡ nthClear k j → gap ≡ 2 ^ k → (i + gap < length re) × (i + gap < length im) × (i + gap < 256)
-  partner-room i gap e f = omega (arith, inside m h (omega (arith, s .reals)), e, f, s .high, s .reals, s .imaginaries, pow-mono {i = m} {j = 8} (s .high))
+  pub partner-room : (i step : ℕ) → i ≡ nthClear k j → step ≡ 2 ^ k → (i + step < length re) × (i + step < length im) × (i + step < 256)
+  partner-room i step e f = omega (arith, inside m h (omega (arith, s .reals)), e, f, s .high, s .reals, s .imaginaries, pow-mono {i = m} {j = 8} (s .high))
     where
       inside : (m : ℕ) → k < m → j < 2 ^ m / 2 → nthClear k j + 2 ^ k < 2 ^ m
       inside zero h l = absurd (omega arith)
@@ -58,43 +58,43 @@ unfolding votesTo
 votes-none re im k = ap₂ complex zero-bits zero-bits ∙ sym (sums-none f32 (λ i. 0) _)
 
 -- the vote at place j
-pub vote-is : (re im : List Float) (k j i gap : ℕ) (r y p : Complex Float) → i ≡ nthClear k j → gap ≡ 2 ^ k → y ≡ sample f32 re im (i + gap) → p ≡ sample f32 re im i
+pub vote-is : (re im : List Float) (k j i step : ℕ) (r y p : Complex Float) → i ≡ nthClear k j → step ≡ 2 ^ k → y ≡ sample f32 re im (i + step) → p ≡ sample f32 re im i
     → r ≡ term f32 y p → r ≡ voteAt re im k j
 unfolding voteAt
-vote-is re im k j i gap r y p f g Y P R = R ∙ ap₂ (term f32) (Y ∙ ap₂ (λ a b. sample f32 re im (a + b)) f g) (P ∙ ap (sample f32 re im) f)
+vote-is re im k j i step r y p f g Y P R = R ∙ ap₂ (term f32) (Y ∙ ap₂ (λ a b. sample f32 re im (a + b)) f g) (P ∙ ap (sample f32 re im) f)
 
--- ---- the slice that starts at the gap
+-- ---- the slice that starts at the step
 abbrev pub onward : List Float → ℕ → List Float
-onward x gap = take (length x - gap) (drop gap x)
+onward x step = take (length x - step) (drop step x)
 
-onward-drop : (x : List Float) (gap : ℕ) → onward x gap ≡ drop gap x
-onward-drop x gap = take-all (length x - gap) (drop gap x) (omega (arith, length-drop gap x))
+onward-drop : (x : List Float) (step : ℕ) → onward x step ≡ drop step x
+onward-drop x step = take-all (length x - step) (drop step x) (omega (arith, length-drop step x))
 
-onward-room : (x : List Float) (gap i : ℕ) → i + gap < length x → i < length (onward x gap)
-onward-room x gap i l = omega (arith, ap length (onward-drop x gap), length-drop gap x)
+onward-room : (x : List Float) (step i : ℕ) → i + step < length x → i < length (onward x step)
+onward-room x step i l = omega (arith, ap length (onward-drop x step), length-drop step x)
 
-onward-at : (x : List Float) (gap i : ℕ) (d : Float) → getD (onward x gap) i d ≡ getD x (i + gap) d
-onward-at x gap i d = ap (λ l. getD l i d) (onward-drop x gap) ∙ getD-drop gap x i d ∙ ap (λ n. getD x n d) (omega arith)
+onward-at : (x : List Float) (step i : ℕ) (d : Float) → getD (onward x step) i d ≡ getD x (i + step) d
+onward-at x step i d = ap (λ l. getD l i d) (onward-drop x step) ∙ getD-drop step x i d ∙ ap (λ n. getD x n d) (omega arith)
 
-onward-sample : (re im : List Float) (gap i : ℕ) → sample f32 (onward re gap) (onward im gap) i ≡ sample f32 re im (i + gap)
+onward-sample : (re im : List Float) (step i : ℕ) → sample f32 (onward re step) (onward im step) i ≡ sample f32 re im (i + step)
 unfolding sample
-onward-sample re im gap i = ap₂ complex (onward-at re gap i _) (onward-at im gap i _)
+onward-sample re im step i = ap₂ complex (onward-at re step i _) (onward-at im step i _)
 
--- the gap is within both slices
-pub gap-room : (m k gap : ℕ) (re im : List Float) → Samples m re im → k < m → gap ≡ 2 ^ k → (gap ≤ length re) × (gap ≤ length im) × (gap ≤ 256)
-gap-room m k gap re im s h g = omega (arith, g, s .high, s .reals, s .imaginaries, pow-mono {i = k} {j = m} (omega arith), pow-mono {i = m} {j = 8} (s .high))
+-- the step is within both slices
+pub step-room : (m k step : ℕ) (re im : List Float) → Samples m re im → k < m → step ≡ 2 ^ k → (step ≤ length re) × (step ≤ length im) × (step ≤ 256)
+step-room m k step re im s h g = omega (arith, g, s .high, s .reals, s .imaginaries, pow-mono {i = k} {j = m} (omega arith), pow-mono {i = m} {j = 8} (s .high))
 
--- the index of vote j is within both slices, and within those that start at the gap
-pub onward-rooms : (m k j : ℕ) (re im : List Float) → Samples m re im → k < m → j < length re / 2 → (i gap : ℕ) → i ≡ nthClear k j → gap ≡ 2 ^ k
-    → (i < length re) × (i < length im) × (i < length (onward re gap)) × (i < length (onward im gap))
-onward-rooms m k j re im s h l i gap e g =
-    let r = partner-room m k j re im s h l i gap e g in
-    (omega (arith, r), omega (arith, r), onward-room re gap i (r .0), onward-room im gap i (r .1))
+-- the index of vote j is within both slices, and within those that start at the step
+pub onward-rooms : (m k j : ℕ) (re im : List Float) → Samples m re im → k < m → j < length re / 2 → (i step : ℕ) → i ≡ nthClear k j → step ≡ 2 ^ k
+    → (i < length re) × (i < length im) × (i < length (onward re step)) × (i < length (onward im step))
+onward-rooms m k j re im s h l i step e g =
+    let r = partner-room m k j re im s h l i step e g in
+    (omega (arith, r), omega (arith, r), onward-room re step i (r .0), onward-room im step i (r .1))
 
--- the vote at place j, with the partner from the slices that start at the gap
-pub onward-vote : (re im : List Float) (k j i gap : ℕ) (r : Complex Float) → i ≡ nthClear k j → gap ≡ 2 ^ k
-    → r ≡ term f32 (sample f32 (onward re gap) (onward im gap) i) (sample f32 re im i) → r ≡ voteAt re im k j
-onward-vote re im k j i gap r e g R = vote-is re im k j i gap r _ _ e g (onward-sample re im gap i) refl R
+-- the vote at place j, with the partner from the slices that start at the step
+pub onward-vote : (re im : List Float) (k j i step : ℕ) (r : Complex Float) → i ≡ nthClear k j → step ≡ 2 ^ k
+    → r ≡ term f32 (sample f32 (onward re step) (onward im step) i) (sample f32 re im i) → r ≡ voteAt re im k j
+onward-vote re im k j i step r e g R = vote-is re im k j i step r _ _ e g (onward-sample re im step i) refl R
 
 -- the sums plus one vote
 pub vote-next : (re im : List Float) (k j : ℕ) (s r z : Complex Float) → s ≡ votesTo f32 k (sample f32 re im) j → z ≡ voteAt re im k j → r ≡ plus f32 s z

@@ -3,10 +3,10 @@ use lib.Ieee.{Float}
 use Rattle.soft_theory.specs.Complex.{Complex}
 use Rattle.soft_vote_sums.specs.declared.Sums.{Sums}
 
--- both sums
+-- both sums as one complex number
 unfoldable pub pair : Sums → Complex Float
 pair s = record { re = s .re; im = s .im }
 
--- two parts
+-- the complex number of two parts
 abbrev pub complex : Float → Float → Complex Float
 complex x y = record { re = x; im = y }

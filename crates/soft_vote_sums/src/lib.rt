@@ -48,16 +48,16 @@ pub fn vote_at(m: u32, k: u32, j: usize, i: usize, re: &[f32], im: &[f32]) -> Su
     requires { ⌜ Samples m (now re) (now im) × (k < m) × (j < length (now re) / 2) × (i ≡ nthClear k j) ⌝ }
     ensures { λ r. ⌜ pair r ≡ voteAt (now (re .entry)) (now (im .entry)) k j ⌝ }
 {
-    let gap = code_arith::pow2(k);
+    let step = code_arith::pow2(k);
     vote_term(
-        part(re, i + gap),
-        part(im, i + gap),
+        part(re, i + step),
+        part(im, i + step),
         part(re, i),
         part(im, i),
     )
 }
 
-// The vote of the sample at index i, whose partner is at index i of the slices that start at the gap.
+// The vote of the sample at index i, whose partner is at index i of the slices that start 2^k indices further on.
 fn vote_of(i: usize, re: &[f32], im: &[f32], yr: &[f32], yi: &[f32]) -> Sums
     requires { ⌜ (i < length (now re)) × (i < length (now im)) × (i < length (now yr)) × (i < length (now yi)) ⌝ }
     ensures { λ r. ⌜ pair r ≡ term f32 (sample f32 (now (yr .entry)) (now (yi .entry)) i) (sample f32 (now (re .entry)) (now (im .entry)) i) ⌝ }
@@ -71,9 +71,9 @@ pub fn vote_sums(m: u32, k: u32, re: &[f32], im: &[f32]) -> Sums
     ensures { λ r. ⌜ pair r ≡ voteSums f32 m k (sample f32 (now (re .entry)) (now (im .entry))) ⌝ }
 {
     let mut s = Sums { re: 0.0, im: 0.0 };
-    let gap = code_arith::pow2(k);
-    let yr = &re[gap..];
-    let yi = &im[gap..];
+    let step = code_arith::pow2(k);
+    let yr = &re[step..];
+    let yi = &im[step..];
     for b in 0..re.len() / 4 {
         let j = 2 * b;
         s = add(s, vote_of(code_arith::nth_clear(k, j), re, im, yr, yi));

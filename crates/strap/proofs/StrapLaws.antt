@@ -11,7 +11,7 @@ use lib.ListN.{length, set}
 use Rattle.code_theory.specs.Sum.{at}
 use Rattle.code_theory.specs.Question.{ask, isMessageSize, allBelow, accepted}
 use Rattle.code_theory.proofs.QuestionLaws.{ask-yes, message-size, message-yes, message-no, all-below, answer-yes, after-yes}
-use Rattle.strap.specs.Strap.{digit, strapMessage, rateOf, zoneOf, isZone, packRefusal, packAnswer, packMessage, unpackRefusal, unpackAnswer}
+use Rattle.strap.specs.Strap.{baseFour, strapMessage, rateOf, zoneOf, isZone, packRefusal, packAnswer, packMessage, unpackRefusal, unpackAnswer}
 
 -- a list of five by its elements
 five : (t : List ℕ) → length t ≡ 5 → t ≡ at t 0 ∷ at t 1 ∷ at t 2 ∷ at t 3 ∷ at t 4 ∷ []
@@ -26,7 +26,7 @@ five (a ∷ b ∷ c ∷ d ∷ f ∷ g ∷ t) e = absurd (omega arith)
 -- the five stores of pack, on any message of its size
 pub stored : (t : List ℕ) (rate zone : ℕ) → length t ≡ 5
     → set (set (set (set (set t 0 zone) 1 (rate % 4)) 2 (rate / 4 % 4)) 3 (rate / 16 % 4)) 4 (rate / 64 % 4) ≡ strapMessage rate zone
-unfolding strapMessage digit
+unfolding strapMessage baseFour
 stored [] rate zone e = absurd (omega arith)
 stored (a ∷ []) rate zone e = absurd (omega arith)
 stored (a ∷ b ∷ []) rate zone e = absurd (omega arith)
@@ -36,8 +36,8 @@ stored (a ∷ b ∷ c ∷ d ∷ f ∷ []) rate zone e = ap (λ x. zone ∷ x ∷
 stored (a ∷ b ∷ c ∷ d ∷ f ∷ g ∷ t) rate zone e = absurd (omega arith)
 
 -- a rate of one byte by its digits
-digits : (rate : ℕ) → rate < 256 → digit 0 rate + 4 * digit 1 rate + 16 * digit 2 rate + 64 * digit 3 rate ≡ rate
-unfolding digit
+digits : (rate : ℕ) → rate < 256 → baseFour 0 rate + 4 * baseFour 1 rate + 16 * baseFour 2 rate + 64 * baseFour 3 rate ≡ rate
+unfolding baseFour
 digits rate h =
     let x : rate / 16 ≡ rate / 4 / 4 = sym (div-div-eq-div-mul rate 4 4) in
     let y : rate / 64 ≡ rate / 16 / 4 = sym (div-div-eq-div-mul rate 16 4) in
@@ -48,19 +48,19 @@ digits rate h =
         → rate / 1 % 4 + 4 * (x % 4) + 16 * (y % 4) + 64 * (z % 4) ≡ rate
     whole rate x y z a b c d h = let e : z % 4 ≡ z = omega arith in omega arith
 
-digit-below : (k rate : ℕ) → digit k rate < 4
-unfolding digit
+digit-below : (k rate : ℕ) → baseFour k rate < 4
+unfolding baseFour
 digit-below k rate = omega arith
 
 -- the digits of a rate by its coefficients
 record Digits (a b c d rate : ℕ) : Type 0 where
-  first : digit 0 rate ≡ a
-  second : digit 1 rate ≡ b
-  third : digit 2 rate ≡ c
-  fourth : digit 3 rate ≡ d
+  first : baseFour 0 rate ≡ a
+  second : baseFour 1 rate ≡ b
+  third : baseFour 2 rate ≡ c
+  fourth : baseFour 3 rate ≡ d
 
 digits-of : (a b c d : ℕ) → a < 4 → b < 4 → c < 4 → d < 4 → Digits a b c d (a + 4 * b + 16 * c + 64 * d)
-unfolding digit
+unfolding baseFour
 digits-of a b c d ha hb hc hd = record { first = omega arith; second = omega arith; third = omega arith; fourth = omega arith }
 
 -- the number that the questions of pack and unpack give, test by test
@@ -120,20 +120,15 @@ coefficients t u = record {
   fourth = u .below 4 (omega arith);
 }
 
--- a rate that is unpacked fits a byte
-pub rate-below : (t : List ℕ) → Unpackable t → rateOf t < 256
-unfolding rateOf
-rate-below t u = omega (arith, coefficients t u)
-
 message-unpacks : (rate zone : ℕ) → zone ≤ 3 → unpackRefusal (strapMessage rate zone) ≡ 0
 unfolding unpackRefusal strapMessage ask isMessageSize allBelow
 message-unpacks rate zone h =
     rw (
       lt-ltb zone 4 (omega arith),
-      lt-ltb (digit 0 rate) 4 (digit-below 0 rate),
-      lt-ltb (digit 1 rate) 4 (digit-below 1 rate),
-      lt-ltb (digit 2 rate) 4 (digit-below 2 rate),
-      lt-ltb (digit 3 rate) 4 (digit-below 3 rate),
+      lt-ltb (baseFour 0 rate) 4 (digit-below 0 rate),
+      lt-ltb (baseFour 1 rate) 4 (digit-below 1 rate),
+      lt-ltb (baseFour 2 rate) 4 (digit-below 2 rate),
+      lt-ltb (baseFour 3 rate) 4 (digit-below 3 rate),
     )
 
 -- unpacking what was packed gives the rate and the zone back

@@ -12,12 +12,12 @@ use Rattle.strap.specs.declared.Unpacked.{Unpacked}
 use Rattle.strap.specs.declared.Unpacked.the-variants as U
 
 -- digit k of the rate in base 4, digit 0 the lowest: the coefficient a_k
-unfoldable pub digit : ℕ → ℕ → ℕ
-digit k rate = rate / 4 ^ k % 4
+unfoldable pub baseFour : ℕ → ℕ → ℕ
+baseFour k rate = rate / 4 ^ k % 4
 
 -- the message of a rate and a zone: the zone symbol, then the coefficients
 unfoldable pub strapMessage : ℕ → ℕ → List ℕ
-strapMessage rate zone = zone ∷ digit 0 rate ∷ digit 1 rate ∷ digit 2 rate ∷ digit 3 rate ∷ []
+strapMessage rate zone = zone ∷ baseFour 0 rate ∷ baseFour 1 rate ∷ baseFour 2 rate ∷ baseFour 3 rate ∷ []
 
 -- the rate that a message says: a_0 + 4 a_1 + 16 a_2 + 64 a_3, with a_k at place k + 1
 unfoldable pub rateOf : List ℕ → ℕ

@@ -5,7 +5,6 @@ use mathlib.Core.List.{List}
 use native.Mathlib.Decide.{decLt}
 use native.Mathlib.Omega.{arith}
 use native.Mathlib.Nat.{add-assoc, add-comm, mul-add, mul-comm, mul-le-mul-right, add-mul, one-mul, mod-eq-of-lt, div-one, add-zero}
-use borrow.Author.Count.{below-none}
 use lib.ListN.{length, set, length-set}
 use lib.Seq.{getD-set-same, getD-set-other}
 use lib.Pow.{pow-add, pow-mono, high}
@@ -47,10 +46,6 @@ module _ (n p x y : ℕ) (f : ℕ → ℕ) (a : Holds n x f) (b : Holds p y (λ 
     where
       below : y * 2 ^ (8 * n) < 18446744073709551616
       below = omega (arith, join-fits, pow-mono {i = 8 * (n + p)} {j = 64} (omega arith))
-
--- 0 holds no symbol; n symbols and the next one above them are n + 1 symbols
-pub hold-none : (f : ℕ → ℕ) → Holds 0 0 f
-hold-none f = record { fits = omega arith; each = below-none _ }
 
 pub hold-more : (n x y : ℕ) (f : ℕ → ℕ) → n < 8 → Holds n x f → y ≡ f n → y < 256 → Holds (n + 1) (x + y * 2 ^ (8 * n) % 18446744073709551616) f
 hold-more n x y f h a e b = hold-shifted n 1 x y f a (hold-one y (λ l. f (n + l)) (e ∙ ap f (sym (add-zero n))) b) (omega arith)

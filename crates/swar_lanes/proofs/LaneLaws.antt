@@ -60,9 +60,6 @@ module _ (l u v e : ℕ) (hu : u < 18446744073709551616) (hv : v < 1844674407370
       digit-sub 4 16 18446744073709551615 e (omega arith) he (λ i j. omega (arith, full-lanes i j, digit-lt 4 e i)) t h
       ∙ ap₂ (λ x y. x - y) (full-lanes t h) (c t h)
 
-  odd-le : 18446744073709551615 - e < 18446744073709551616
-  odd-le = omega arith
-
   left-lane : (t : ℕ) → t < 16 → digit 4 (bitAnd u e) t ≡ bitAnd (digit 4 u t) (15 * (1 - bit l t))
   left-lane t h = digit-and 4 u e t ∙ ap (bitAnd (digit 4 u t)) (c t h)
 

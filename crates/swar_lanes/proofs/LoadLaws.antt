@@ -73,7 +73,7 @@ module _ (a b : ℕ) (ha : a < 18446744073709551616) (hb : b < 18446744073709551
             ap (digit 4 (a + 16 * b)) g ∙ digit-odd 4 (a + 16 * b) l ∙ ap (λ z. z / 16) (byte l k) ∙ value ∙ ap (at w) place
         go l (suc (suc p)) e f = absurd (omega arith)
 
--- before the loop no number is loaded, and a turn of the loop loads the next one
+-- before the loop no number is loaded, and each pass of the loop loads the next one
 pub loaded-none : (w x : List ℕ) → Loaded w x x 0
 loaded-none w x = record { size = refl; packed = λ j l. absurd (not-suc-le-zero l); rest = λ j l. refl }
 

@@ -45,7 +45,7 @@ pub record Reach (q k j : ℕ) (x : List ℕ) : Type 0 where
   pub size : length x ≡ 16
   pub symbols : Within q x
   pub few : j < 8
-  pub variables : k < 8
+  pub coefficient : k < 8
   pub partner : 4 ≤ k → nthClear (k - 4) j + 2 ^ (k - 4) < 16
 
 -- the lanes of r are the votes of ballot j for coefficient k of any word whose symbols its numbers hold

@@ -116,7 +116,3 @@ written-then b at t u next end mid out h w v =
       place = omega (arith, w .place, v .place, length-append t u);
       buffer = v .buffer ∙ ap (λ l. put l next u) (w .buffer) ∙ ap (λ k. put (put b at t) k u) (w .place) ∙ put-put b at t u h;
     }
-
--- a buffer that text was put into is as long as before
-pub written-length : {b : List ℕ} {at : ℕ} {t : List ℕ} {next : ℕ} {out : List ℕ} → Written b at t next out → at + length t ≤ length b → length out ≡ length b
-written-length {b} {at} {t} w h = ap length (w .buffer) ∙ length-put b at t h

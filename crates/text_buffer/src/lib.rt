@@ -53,7 +53,7 @@ fn put_pair(n: u32, out: &mut [u8], at: usize)
 }
 
 // Puts the number's decimal digits, the last ones first.
-pub fn put_decimal(n: u32, out: &mut [u8], at: usize) -> usize
+fn put_decimal(n: u32, out: &mut [u8], at: usize) -> usize
     requires { ⌜ at + length (decimal n) ≤ length (now out) ⌝ }
     ensures place { λ r. ⌜ r ≡ at + length (decimal n) ⌝ }
     ensures buffer { λ r. ⌜ now (out .exit) ≡ put (now (out .entry)) at (decimal n) ⌝ }

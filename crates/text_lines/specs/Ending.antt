@@ -17,6 +17,6 @@ lineLength bytes = indexOf 10 bytes
 unfoldable pub hasSlot : List ℕ → Bool
 hasSlot bytes = ltb 16 (length bytes) && (eqb (at bytes 16) 10 && isSlot (take 16 bytes))
 
--- whether bytes, n of which stand before the first newline, begin with a miss and the newline behind it
+-- whether the first n bytes are a miss and at least one more follows: the newline, where n bytes stand before the first one
 unfoldable pub hasMiss : ℕ → List ℕ → Bool
 hasMiss n bytes = ltb n (length bytes) && isMiss (take n bytes)

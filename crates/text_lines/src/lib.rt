@@ -1,4 +1,4 @@
-// The lines that a program reads, one slot each, q = 4, m = 4.
+// What a line of input is: a slot, a miss, or malformed; q = 4, m = 4.
 ghost use mathlib.Core.Path.{_≡_};
 ghost use mathlib.Core.Bool.{true};
 ghost use lib.ListN.{length};
@@ -71,7 +71,7 @@ pub fn has_slot(bytes: &[u8]) -> bool
     16 < bytes.len() && (bytes[16] == b'\n' && is_slot(&bytes[..16]))
 }
 
-// Whether the bytes, n of which stand before the first newline, begin with a miss and the newline behind it.
+// Whether the first n bytes are a miss and at least one more follows: the newline, where n bytes stand before the first one.
 pub fn has_miss(n: usize, bytes: &[u8]) -> bool
     ensures { λ r. ⌜ r ≡ hasMiss n (now (bytes .entry)) ⌝ }
 {

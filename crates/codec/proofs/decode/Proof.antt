@@ -9,7 +9,7 @@ use Rattle.codec.proofs.ReadLaws.{decode-refused, decode-doubtful, deco
 use Rattle.codec.proofs.decode.Statement.{statement}
 use Rattle.codec.proofs.decode.Tie as tie
 
--- the questions before 9 have a yes
+-- the questions before 9 are answered yes
 yes : (c : tie.Else1) → let s = c .before .before .before .before .before in wordRefusal (s .args .q) (s .args .m) (s .args .message .now) (s .args .word .now) ≡ 0
 yes c = sym (c .before .word-refusal .ensures) ∙ c .if1 .left
 
@@ -24,7 +24,7 @@ unfolding decoded
 returns c = decode-refused _ _ _ _ _ (c .before .word-refusal .ensures) (c .if1 .taken)
 
 read-requires : tie.Need-read-requires
-read-requires c κs = let y = readable _ _ _ _ (yes (c .before)) in (y .received, omega (arith, y .sized .message))
+read-requires c κs = let y = readable _ _ _ _ (yes (c .before)) in (y .wellFormed, omega (arith, y .sized .message))
 
 enum-known-reading : tie.Need-enum-known-reading
 enum-known-reading c = search needs

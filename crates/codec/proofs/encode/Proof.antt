@@ -1,4 +1,4 @@
--- `encode` meets its contract, by the number of the first question with a no.
+-- `encode` meets its contract, by the number of the first question answered no.
 use borrow.Author.Needs.{needs}
 use Rattle.codec.specs.Codec.{encoded}
 use Rattle.codec.proofs.Accepted.{encode-refused, encode-accepted}

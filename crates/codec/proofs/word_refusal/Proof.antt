@@ -10,7 +10,7 @@ use Rattle.codec.proofs.Accepted.{sized, word-later, word-never}
 use Rattle.codec.proofs.word_refusal.Statement.{statement}
 use Rattle.codec.proofs.word_refusal.Tie as tie
 
--- questions 1, 2 and 5 have a yes
+-- questions 1, 2 and 5 are answered yes
 first : (c : tie.Else1) → sizeRefusal (c .before .before .before .before .args .q) (c .before .before .before .before .args .m) (c .before .before .before .before .args .message .now) ≡ 0
 first c = sym (c .before .size-refusal .ensures) ∙ c .if1 .left
 

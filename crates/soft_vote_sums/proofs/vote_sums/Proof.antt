@@ -8,16 +8,16 @@ use Rattle.soft_theory.specs.Numbers.{f32}
 use Rattle.soft_theory.specs.Complex.{sample}
 use Rattle.soft_theory.proofs.SumsLaws.{votesTo}
 use Rattle.soft_vote_sums.specs.Pair.{pair}
-use Rattle.soft_vote_sums.proofs.Steps.{few-votes, gap-room, onward-rooms, onward-vote, votes-none, votes-next, votes-end}
+use Rattle.soft_vote_sums.proofs.Steps.{few-votes, step-room, onward-rooms, onward-vote, votes-none, votes-next, votes-end}
 use borrow.Author.Needs.{needs}
 use Rattle.soft_vote_sums.proofs.vote_sums.Statement.{statement}
 use Rattle.soft_vote_sums.proofs.vote_sums.Tie as tie
 
 abbrev Inv-loop : tie.InvT-loop
-Inv-loop m k re im s₀ gap yr yi b₀ b-end s b = (b ≤ b-end) × (b-end ≡ length re / 4) × (pair s ≡ votesTo f32 k (sample f32 re im) (2 * b))
+Inv-loop m k re im s₀ step yr yi b₀ b-end s b = (b ≤ b-end) × (b-end ≡ length re / 4) × (pair s ≡ votesTo f32 k (sample f32 re im) (2 * b))
 
 abbrev μ-loop : tie.MeasureT-loop
-μ-loop m k re im s₀ gap yr yi b₀ b-end s b = b-end - b
+μ-loop m k re im s₀ step yr yi b₀ b-end s b = b-end - b
 
 pow2-requires : tie.Need-pow2-requires Inv-loop μ-loop
 pow2-requires c κs = search needs
@@ -25,12 +25,12 @@ pow2-requires c κs = search needs
 mul-yr : tie.Need-mul-yr Inv-loop μ-loop
 mul-yr c =
     let s = c .before .before .before in
-    omega (arith, gap-room (s .args .m) (s .args .k) (c .pow2 .result) (s .args .re .now) (s .args .im .now) (s .pre .0) (s .pre .1) (c .pow2 .ensures))
+    omega (arith, step-room (s .args .m) (s .args .k) (c .pow2 .result) (s .args .re .now) (s .args .im .now) (s .pre .0) (s .pre .1) (c .pow2 .ensures))
 
 sub-yr : tie.Need-sub-yr Inv-loop μ-loop
 sub-yr c =
     let s = c .before .before .before in
-    gap-room _ _ _ _ _ (s .pre .0) (s .pre .1) (c .pow2 .ensures) .0
+    step-room _ _ _ _ _ (s .pre .0) (s .pre .1) (c .pow2 .ensures) .0
 
 part-yr-start : tie.Need-part-yr-start Inv-loop μ-loop
 part-yr-start c = sub-yr c
@@ -41,12 +41,12 @@ part-yr-end c = search needs
 mul-yi : tie.Need-mul-yi Inv-loop μ-loop
 mul-yi c =
     let s = c .before .before .before .before in
-    omega (arith, gap-room (s .args .m) (s .args .k) (c .before .pow2 .result) (s .args .re .now) (s .args .im .now) (s .pre .0) (s .pre .1) (c .before .pow2 .ensures))
+    omega (arith, step-room (s .args .m) (s .args .k) (c .before .pow2 .result) (s .args .re .now) (s .args .im .now) (s .pre .0) (s .pre .1) (c .before .pow2 .ensures))
 
 sub-yi : tie.Need-sub-yi Inv-loop μ-loop
 sub-yi c =
     let s = c .before .before .before .before in
-    gap-room _ _ _ _ _ (s .pre .0) (s .pre .1) (c .before .pow2 .ensures) .1
+    step-room _ _ _ _ _ (s .pre .0) (s .pre .1) (c .before .pow2 .ensures) .1
 
 part-yi-start : tie.Need-part-yi-start Inv-loop μ-loop
 part-yi-start c = sub-yi c
