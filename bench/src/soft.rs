@@ -1,4 +1,4 @@
-//! The best safe Rust for soft samples, q = 4, with the bits of the document's order of operations: the sums of several
+//! The best safe Rust for soft samples, q = 4, with the bits of the order of operations that docs/REQUIREMENTS.md sets: the sums of several
 //! coefficients run side by side, since each waits for the addition before.
 
 use crate::questions::{is_variables, yes, Refusal};

@@ -6,7 +6,7 @@ use native.Mathlib.Nat.{mod-add-div, mul-comm, one-mul}
 use lib.Bits.{bitAnd, and-mask}
 use lib.Dec.{lit<}
 use lib.Pow.{pow-pos, shl-exact}
-use Rattle.code_theory.specs.Index.{nthClear}
+use Rattle.code_theory.specs.Internal.{nthClear}
 
 -- the bits below k, as the code's mask picks them
 one-up : (k : ℕ) → k < 8 → (1 * 2 ^ k) % 18446744073709551616 ≡ 2 ^ k

@@ -2,7 +2,7 @@
 ghost use mathlib.Core.Path.{_≡_};
 ghost use mathlib.Core.Bool.{true};
 ghost use Prim.Native.Nat.{_+_, _%_, _^_, _<_, _≤_, min, max};
-ghost use Rattle.code_theory.specs.Index.{nthClear};
+ghost use Rattle.code_theory.specs.Internal.{nthClear};
 ghost use Rattle.code_theory.specs.Modular.{subMod};
 ghost use Rattle.code_theory.specs.Question.{isAlphabet};
 

@@ -7,7 +7,7 @@ use borrow.Author.Count.{below-none, below-more}
 use borrow.Author.Tests.{lt-ltb, ltb-true}
 use lib.Dec.{ltb}
 use Rattle.code_theory.specs.Sum.{at}
-use Rattle.code_questions.specs.Part.{Tells}
+use Rattle.code_questions.specs.Internal.{Tells}
 
 -- top is the largest of the n symbols of s from place i on, and 0 where there is none
 pub record Top (s : List ℕ) (i n top : ℕ) : Type 0 where

@@ -8,7 +8,8 @@ use native.Mathlib.Omega.{arith}
 use lib.ListN.{length}
 use lib.Pow.{pow-mono}
 use Rattle.code_theory.specs.Sum.{sum, at}
-use Rattle.code_theory.specs.Index.{bit, nthClear}
+use Rattle.code_theory.specs.Index.{bit}
+use Rattle.code_theory.specs.Internal.{nthClear}
 use Rattle.code_theory.specs.Modular.{differ}
 use Rattle.code_theory.specs.Code.{linear, symbolAt, codeword}
 use Rattle.code_theory.specs.Near.{distance, Near, leeDistance}

@@ -8,7 +8,7 @@ use native.Mathlib.Omega.{arith}
 use Rattle.code_theory.specs.Sum.{sum}
 use Rattle.code_theory.specs.Index.{bit, ifClear}
 use Rattle.code_theory.specs.Modular.{subMod, same, differ}
-use Rattle.code_theory.specs.Code.{linear, symbolAt}
+use Rattle.code_theory.specs.Code.{linear, symbolAt, Below}
 use Rattle.code_theory.specs.Near.{distance, Near}
 use Rattle.code_theory.specs.Vote.{count, vote, votes, residues, tally}
 use Rattle.code_theory.specs.Margin.{mostOther, lead, margin}
@@ -17,7 +17,7 @@ use Rattle.code_theory.proofs.IndexLaws.{pairing, half-clear}
 use Rattle.code_theory.proofs.ModularLaws.{subMod-lt, subMod-mod, subMod-add, add-subMod, subMod-is, add-cancel, same-eq, same-ne, same-le, differ-eq, differ-ne}
 use Rattle.code_theory.proofs.CodeLaws.{linear-partner, symbolAt-lt}
 use Rattle.code_theory.proofs.VoteLaws.{tally-own, tally-other, residues-exact}
-use Rattle.code_theory.proofs.WinnerLaws.{Below}
+use Rattle.code_theory.specs.Internal.{error, sumFrom1, maxFrom1}
 use Rattle.code_theory.proofs.MarginLaws.{mostOther-le, le-mostOther, least-le, margin-bound}
 
 -- THE CONSTANT'S LEAD: for a near message it is at least half of the places
@@ -50,10 +50,6 @@ votes-le-half q m k y h v =
 pub lead-le-half : (q m k v : ℕ) (y : ℕ → ℕ) → k < m → lead q v (votes q m k y) ≤ 2 ^ m / 2
 unfolding lead
 lead-le-half q m k v y h = omega (arith, votes-le-half q m k y h v)
-
--- the errors of the word y: what it differs by from the word of the message s
-unfoldable pub error : ℕ → ℕ → (ℕ → ℕ) → (ℕ → ℕ) → ℕ → ℕ
-error q m s y i = subMod q (y i) (symbolAt q m s i)
 
 pub error-lt : (q m : ℕ) (s y : ℕ → ℕ) (i : ℕ) → 0 < q → error q m s y i < q
 unfolding error
@@ -150,16 +146,6 @@ differ-error q a b h la lb = go (ℕ-discrete a b)
 pub error-distance : (q m : ℕ) (s y : ℕ → ℕ) → 0 < q → ((i : ℕ) → i < 2 ^ m → y i < q) → distance q m s y ≡ sum (2 ^ m) (λ i. differ 0 (error q m s y i))
 unfolding distance error
 error-distance q m s y h hy = sum-ext (2 ^ m) _ _ (λ i l. differ-error q (symbolAt q m s i) (y i) h (symbolAt-lt q m s i h) (hy i l))
-
--- f 1 + .. + f n
-unfoldable pub sumFrom1 : ℕ → (ℕ → ℕ) → ℕ
-sumFrom1 zero f = 0
-sumFrom1 (suc n) f = sumFrom1 n f + f (suc n)
-
--- the most of f 1 to f n, 0 where there is none
-unfoldable pub maxFrom1 : ℕ → (ℕ → ℕ) → ℕ
-maxFrom1 zero f = 0
-maxFrom1 (suc n) f = max (maxFrom1 n f) (f (suc n))
 
 -- sums and maxima of equal terms
 pub sumFrom1-ext : (n : ℕ) (f g : ℕ → ℕ) → ((v : ℕ) → 1 ≤ v → f v ≡ g v) → sumFrom1 n f ≡ sumFrom1 n g

@@ -12,7 +12,7 @@ use Rattle.code_theory.specs.Vote.{tally}
 use Rattle.code_theory.specs.Margin.{mostOther, lead, least, margin}
 use Rattle.code_theory.proofs.ModularLaws.{same-eq, same-ne}
 use Rattle.code_theory.proofs.VoteLaws.{tally-own, tally-other, tally-ext}
-use Rattle.code_theory.proofs.WinnerLaws.{Below}
+use Rattle.code_theory.specs.Code.{Below}
 
 pub mostOther-le : (q v : ℕ) (f : ℕ → ℕ) (b : ℕ) → ((u : ℕ) → u < q → u ≢ v → f u ≤ b) → mostOther q v f ≤ b
 unfolding mostOther ifClear

@@ -12,11 +12,12 @@ use borrow.Author.Tests.{ltb-true, lt-ltb}
 use Rattle.code_theory.specs.Sum.{tabulate, at}
 use Rattle.code_theory.specs.Code.{Symbols}
 use Rattle.code_theory.specs.Near.{distance, Near}
-use Rattle.code_theory.specs.Vote.{Winners}
+use Rattle.code_theory.specs.Internal.{Winners}
 use Rattle.code_theory.specs.Nearest.{prefixed, messages, firstOr, find, isFound, orEmpty, isNear, nearest, isReadable, nearMessage, nearDistance}
 use Rattle.code_theory.proofs.SumLaws.{tabulate-length, tabulate-at}
 use Rattle.code_theory.proofs.CodeLaws.{distance-ext}
-use Rattle.code_theory.proofs.WinnerLaws.{Below, near-wins, winners-near}
+use Rattle.code_theory.proofs.WinnerLaws.{near-wins, winners-near}
+use Rattle.code_theory.specs.Code.{Below}
 
 -- what is found passes the test and stands in the list
 pub find-some : (passes : List ℕ → Bool) (ts : List (List ℕ)) (t : List ℕ) → find passes ts ≡ some t → (passes t ≡ true) × List·Memᴰ t ts

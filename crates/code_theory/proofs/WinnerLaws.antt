@@ -6,12 +6,10 @@ use native.Mathlib.Nat.{le-of-suc-le-suc}
 use native.Mathlib.Decide.{ℕ-discrete}
 use native.Mathlib.Omega.{arith}
 use Rattle.code_theory.specs.Near.{distance, Near}
-use Rattle.code_theory.specs.Vote.{tally, Winners}
+use Rattle.code_theory.specs.Vote.{tally}
+use Rattle.code_theory.specs.Internal.{Winners}
+use Rattle.code_theory.specs.Code.{Below}
 use Rattle.code_theory.proofs.VoteLaws.{tally-own, tally-other, tally-ext}
-
--- the m + 1 symbols of s are below q
-abbrev pub Below : ℕ → ℕ → (ℕ → ℕ) → Type 0
-Below q m s = (k : ℕ) → k < suc m → s k < q
 
 module _ (q m : ℕ) (hq : 0 < q) (s : ℕ → ℕ) (hs : Below q m s) (y : ℕ → ℕ) where
   -- STRICT WINNERS: every symbol of a near message has more votes than any other value

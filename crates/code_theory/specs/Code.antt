@@ -1,4 +1,4 @@
--- The code RM_q(1, m): the word of a message (source document 001, section 2.1).
+-- The code RM_q(1, m): the word of a message (HPL-98-195, section 2.1).
 use Prim.Native.Nat.{ℕ, suc, _+_, _*_, _%_, _^_, _<_}
 use mathlib.Core.Path.{_≡_}
 use mathlib.Core.List.{List}
@@ -22,3 +22,7 @@ codeword q m t = tabulate (2 ^ m) (symbolAt q m (at t))
 pub record Symbols (q l : ℕ) (t : List ℕ) : Type 0 where
   pub size : length t ≡ l
   pub below : (i : ℕ) → i < l → at t i < q
+
+-- the m + 1 symbols of s are below q
+abbrev pub Below : ℕ → ℕ → (ℕ → ℕ) → Type 0
+Below q m s = (k : ℕ) → k < suc m → s k < q

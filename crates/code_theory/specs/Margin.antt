@@ -18,6 +18,6 @@ unfoldable pub least : ℕ → (ℕ → ℕ) → ℕ
 least zero f = f 0
 least (suc n) f = min (least n f) (f (suc n))
 
--- the least lead of the m + 1 symbols of the message s (document 01: margin)
+-- the least lead of the m + 1 symbols of the message s (docs/REQUIREMENTS.md: margin)
 unfoldable pub margin : ℕ → ℕ → (ℕ → ℕ) → (ℕ → ℕ) → ℕ
 margin q m s y = least m (λ k. lead q (s k) (tally q m s y k))

@@ -42,7 +42,7 @@ orEmpty (some t) = t
 unfoldable pub isNear : ℕ → ℕ → List ℕ → List ℕ → Bool
 isNear q m y t = ltb (4 * distance q m (at t) (at y)) (2 ^ m)
 
--- the near message of the word y, or none (document 01: doubtful)
+-- the near message of the word y, or none (docs/REQUIREMENTS.md: doubtful)
 unfoldable pub nearest : ℕ → ℕ → List ℕ → Option (List ℕ)
 nearest q m y = find (isNear q m y) (messages q (suc m))
 

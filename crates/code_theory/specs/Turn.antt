@@ -1,5 +1,5 @@
 -- Words turned by a number: every symbol goes up by t modulo q.
-use Prim.Native.Nat.{ℕ, zero, suc, _+_, _%_, _^_}
+use Prim.Native.Nat.{ℕ, _+_, _%_, _^_}
 use Rattle.code_theory.specs.Sum.{sum}
 use Rattle.code_theory.specs.Modular.{differ}
 
@@ -7,11 +7,6 @@ use Rattle.code_theory.specs.Modular.{differ}
 unfoldable pub turn : ℕ → ℕ → (ℕ → ℕ) → ℕ → ℕ
 turn q t x i = (x i + t) % q
 
--- in how many places the word y differs from x turned by t (document 01: altered)
+-- in how many places the word y differs from x turned by t (docs/REQUIREMENTS.md: altered)
 unfoldable pub altered : ℕ → ℕ → ℕ → (ℕ → ℕ) → (ℕ → ℕ) → ℕ
 altered q m t x y = sum (2 ^ m) (λ i. differ (turn q t x i) (y i))
-
--- the message s with its constant turned by t
-unfoldable pub turned : ℕ → ℕ → (ℕ → ℕ) → ℕ → ℕ
-turned q t s zero = (s 0 + t) % q
-turned q t s (suc k) = s (suc k)

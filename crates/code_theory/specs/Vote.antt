@@ -1,5 +1,5 @@
--- The votes for the symbols of a message (source document 001, definition 1).
-use Prim.Native.Nat.{ℕ, zero, suc, _+_, _^_, _≤_, _<_}
+-- The votes for the symbols of a message (HPL-98-195, definition 1).
+use Prim.Native.Nat.{ℕ, zero, suc, _+_, _^_}
 use Rattle.code_theory.specs.Sum.{sum}
 use Rattle.code_theory.specs.Index.{bit, ifClear}
 use Rattle.code_theory.specs.Modular.{subMod, same}
@@ -29,7 +29,3 @@ residues q m s y = count (2 ^ m) (λ i. 0) (residue q m s y)
 unfoldable pub tally : ℕ → ℕ → (ℕ → ℕ) → (ℕ → ℕ) → ℕ → ℕ → ℕ
 tally q m s y zero = residues q m s y
 tally q m s y (suc k) = votes q m k y
-
--- no value has more votes than the symbol of the message s
-abbrev pub Winners : ℕ → ℕ → (ℕ → ℕ) → (ℕ → ℕ) → Type 0
-Winners q m s y = (k : ℕ) → k < suc m → (v : ℕ) → v < q → tally q m s y k v ≤ tally q m s y k (s k)

@@ -10,9 +10,9 @@ use lib.ListN.{length}
 use Rattle.code_theory.specs.Nearest.{isReadable}
 use Rattle.code_theory.specs.Question.{ask, isAlphabet, isVariables, isMessageSize, isWordSize, allBelow, accepted, refused}
 use Rattle.code_theory.proofs.QuestionLaws.{ask-yes, ask-never, ask-later, alphabet, alphabet-bounds, variables-bounds, message-size, word-size, symbols, answer-yes, answer-no}
-use Rattle.code_theory.specs.Word.{WellFormed}
+use Rattle.code_theory.specs.Internal.{WellFormed}
 use Rattle.codec.specs.Codec.{encodeRefusal, encodeAnswer, decodeRefusal}
-use Rattle.codec.specs.Asked.{sizeRefusal, wordRefusal}
+use Rattle.codec.specs.Internal.{sizeRefusal, wordRefusal}
 
 -- q, m and the message slice pass the questions that Read asks first
 pub record Sized (q m : ℕ) (s : List ℕ) : Type 0 where

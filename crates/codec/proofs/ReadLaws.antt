@@ -6,12 +6,12 @@ use mathlib.Core.List.{List, [], _∷_}
 use native.Mathlib.Omega.{arith}
 use Rattle.code_theory.specs.Question.{accepted, refused}
 use Rattle.code_theory.proofs.QuestionLaws.{ask-on, ask-no, answer-yes, answer-no, after-yes, after-no}
-use Rattle.decode_reading.specs.Settled.{Settled}
+use Rattle.decode_reading.specs.Internal.{Settled}
 use Rattle.decode_reading.specs.declared.Reading.{Reading}
 use Rattle.decode_reading.specs.declared.Outcome.{Outcome}
 use Rattle.decode_reading.specs.declared.Outcome.the-variants.{Read, Doubtful}
 use Rattle.codec.specs.Codec.{decodeRefusal, decodeAnswer, decodeMessage}
-use Rattle.codec.specs.Asked.{wordRefusal}
+use Rattle.codec.specs.Internal.{wordRefusal}
 use Rattle.codec.proofs.Accepted.{decode-never, decode-later}
 
 -- what decode answers and leaves, by the number that its questions gave and the reading

@@ -1,4 +1,4 @@
--- What encode and decode answer and leave, for every input (document 01: Write and Read).
+-- What encode and decode answer and leave, for every input (docs/REQUIREMENTS.md: Write and Read).
 use Prim.Native.Nat.{ℕ}
 use mathlib.Core.List.{List, [], _∷_}
 use Rattle.code_theory.specs.Nearest.{isReadable, nearMessage, nearDistance, nearMargin}
@@ -33,7 +33,7 @@ decodeAnswer q m message word = answer (decodeRefusal q m message word) (nearDis
 unfoldable pub decodeMessage : ℕ → ℕ → List ℕ → List ℕ → List ℕ
 decodeMessage q m message word = after (decodeRefusal q m message word) (nearMessage q m word) message
 
--- the paper's number and values for each case of the enums
+-- the number and the values of docs/REQUIREMENTS.md for each case of the enums
 unfoldable pub encoded : Encoded → Answer
 encoded E.Written = accepted []
 encoded (E.Refused number) = refused number

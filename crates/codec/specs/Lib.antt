@@ -1,2 +1,3 @@
+-- What a reader must believe, in reading order; Internal only serves the code.
 pub mod Codec
-pub mod Asked
+pub mod Internal

@@ -1,7 +1,7 @@
-// Words of RM_q(1, m): encode (document 01: Write) and decode (Read).
+// Words of RM_q(1, m): encode (docs/REQUIREMENTS.md: Write) and decode (Read).
 ghost use mathlib.Core.Path.{_≡_};
 ghost use Rattle.codec.specs.Codec.{encodeAnswer, encodeWord, encoded, decodeAnswer, decodeMessage, decoded};
-ghost use Rattle.codec.specs.Asked.{sizeRefusal, wordRefusal};
+ghost use Rattle.codec.specs.Internal.{sizeRefusal, wordRefusal};
 use decode_reading::Outcome;
 // How a word was read.
 pub use decode_reading::Reading;

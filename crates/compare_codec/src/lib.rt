@@ -1,7 +1,7 @@
 // Exports for the comparison with Rust, and for nothing else: each answer as one number.
 ghost use mathlib.Core.Path.{_≡_};
 ghost use Rattle.codec.specs.Codec.{encodeWord, decodeMessage};
-ghost use Rattle.compare_codec.specs.Numbers.{encodeNumber, decodeNumber};
+ghost use Rattle.compare_codec.specs.Internal.{encodeNumber, decodeNumber};
 use codec::Decoded;
 use codec::Encoded;
 

@@ -6,7 +6,7 @@ use mathlib.Core.List.{List, [], _∷_}
 use native.Mathlib.Omega.{arith}
 use borrow.Author.Tests.{eq-eqb, ne-eqb}
 use lib.ListN.{length, set}
-use Rattle.compare_session.specs.Numbers.{four}
+use Rattle.compare_session.specs.Internal.{four}
 
 module _ (a b c d : ℕ) where
   pub four-put : (l : List ℕ) → length l ≡ 4 → set (set (set (set l 0 a) 1 b) 2 c) 3 d ≡ four a b c d l

@@ -7,7 +7,7 @@ use borrow.Author.Tests.{eq-eqb, ne-eqb}
 use lib.ListN.{length, set}
 use lib.Ieee.{Float}
 use Rattle.soft_theory.specs.Complex.{Complex}
-use Rattle.compare_soft.specs.Numbers.{withSums}
+use Rattle.compare_soft.specs.Internal.{withSums}
 
 pub stored : (z : Complex Float) (l : List Float) → length l ≡ 2 → set (set l 0 (z .re)) 1 (z .im) ≡ withSums z l
 unfolding withSums

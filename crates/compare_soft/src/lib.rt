@@ -6,7 +6,7 @@ ghost use mathlib.Core.Path.{_≡_};
 ghost use Rattle.soft_theory.specs.Numbers.{f32};
 ghost use Rattle.soft_theory.specs.Soft.{softVote, readAnswer, readMessage};
 ghost use Rattle.soft.specs.Pair.{pair};
-ghost use Rattle.compare_soft.specs.Numbers.{voteNumber, withSums, voteSums, readNumber};
+ghost use Rattle.compare_soft.specs.Internal.{voteNumber, withSums, voteSums, readNumber};
 
 // Puts the sums into a slice of two.
 fn store(s: Sums, sums: &mut [f32])

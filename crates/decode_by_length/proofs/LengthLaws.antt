@@ -2,7 +2,7 @@
 use Prim.Native.Nat.{ℕ}
 use mathlib.Core.Path.{_≡_}
 use mathlib.Core.List.{List}
-use Rattle.code_theory.specs.Word.{WellFormed}
+use Rattle.code_theory.specs.Internal.{WellFormed}
 
 pub well-formed-at : (q m n : ℕ) (w : List ℕ) → m ≡ n → WellFormed q m w → WellFormed q n w
 well-formed-at q m n w e r = rw e at r

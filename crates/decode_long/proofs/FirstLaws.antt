@@ -12,13 +12,14 @@ use lib.Seq.{getD-set-same, getD-set-other}
 use lib.Pow.{pow-mono}
 use Rattle.code_theory.specs.Sum.{at}
 use Rattle.code_theory.specs.Near.{distance}
-use Rattle.code_theory.specs.Vote.{votes, residues, tally, Winners}
+use Rattle.code_theory.specs.Vote.{votes, residues, tally}
+use Rattle.code_theory.specs.Internal.{Winners, WellFormed}
 use Rattle.code_theory.specs.Margin.{lead, least, margin}
+use Rattle.code_theory.specs.Code.{Below}
 use Rattle.code_theory.proofs.VoteLaws.{residues-exact, tally-ext}
-use Rattle.encode_codeword.specs.Coded.{Fits}
-use Rattle.code_theory.specs.Word.{WellFormed}
-use Rattle.decode_long.specs.Winning.{leastOf, leadOf, FirstWinners, Winning}
-use Rattle.decode_long_winner.specs.Winner.{Leads}
+use Rattle.encode_codeword.specs.Internal.{Fits}
+use Rattle.decode_long.specs.Internal.{leastOf, leadOf, FirstWinners, Winning}
+use Rattle.decode_long_winner.specs.Internal.{Leads}
 use Rattle.code_theory.proofs.WordLaws.{bounds}
 use Rattle.decode_long_winner.proofs.WinnerLaws.{leads-ext, leads-lead}
 
@@ -81,7 +82,7 @@ first-fits q m w s c low r t e = record {
   room = e;
 }
   where
-    below : (k : ℕ) → k < suc m → at s k < q
+    below : Below q m (at s)
     below zero l = omega (arith, t .zeroth, bounds q (r .alphabet))
     below (suc k) l = t .below k (le-of-suc-le-suc l)
 
@@ -104,7 +105,7 @@ module _ (q m : ℕ) (w s : List ℕ) (r : WellFormed q m w) (low : ℕ) (t : Fi
       same-votes : (v : ℕ) → residues q m (at s) (at w) v ≡ residues q m (at d) (at w) v
       same-votes v = tally-ext q m (at s) (at d) (at w) (λ k l. sym (rest k)) 0 v
 
-  below : (k : ℕ) → k < suc m → at d k < q
+  below : Below q m (at d)
   below zero l = rw first (x .inside)
   below (suc k) l = rw (rest k) (t .below k (le-of-suc-le-suc l))
 

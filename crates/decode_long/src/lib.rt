@@ -1,4 +1,4 @@
-// Reading words of 64 places and more by majority-logic decoding (source document 001, section 3.1): all votes are counted, sixteen at a
+// Reading words of 64 places and more by majority-logic decoding (HPL-98-195, section 3.1): all votes are counted, sixteen at a
 // time, and the winners are the only message that can be near the word. It reads 32 places too, which decode_short does faster.
 ghost use mathlib.Core.Path.{_≡_};
 ghost use mathlib.Core.Bool.{true};
@@ -6,12 +6,11 @@ ghost use Prim.Native.Nat.{_+_, _-_, _^_, _<_, _≤_, min};
 ghost use lib.ListN.{length, set};
 ghost use Rattle.code_theory.specs.Sum.{at};
 ghost use Rattle.code_theory.specs.Question.{isAlphabet};
-ghost use Rattle.code_theory.specs.Word.{WellFormed};
-ghost use Rattle.decode_long_tally.specs.Counters.{Units, Tallied};
-ghost use Rattle.swar_lanes.specs.Lane.{Within, Packed};
-ghost use Rattle.decode_long_tally.specs.Pairs.{Pairs};
-ghost use Rattle.decode_reading.specs.Settled.{Settled};
-ghost use Rattle.decode_long.specs.Winning.{FirstWinnersOf, Empty, LongCode, LongConstant, Winning};
+ghost use Rattle.code_theory.specs.Internal.{WellFormed};
+ghost use Rattle.decode_long_tally.specs.Internal.{Units, Tallied, Pairs};
+ghost use Rattle.swar_lanes.specs.Internal.{Within, Packed};
+ghost use Rattle.decode_reading.specs.Internal.{Settled};
+ghost use Rattle.decode_long.specs.Internal.{FirstWinnersOf, Empty, LongCode, LongConstant, Winning};
 use decode_long_winner::Winner;
 use decode_reading::Outcome;
 use decode_reading::Reading;

@@ -17,9 +17,9 @@ use Rattle.code_theory.specs.Vote.{count}
 use Rattle.code_theory.proofs.SumLaws.{sum-ext, sum-const, sum-bound}
 use Rattle.code_theory.proofs.ModularLaws.{same-eq, same-ne, same-le}
 use Rattle.code_theory.proofs.QuestionLaws.{and-true}
-use Rattle.swar_theory.specs.Digit.{digit, number}
+use Rattle.swar_theory.specs.Internal.{digit, number}
 use Rattle.swar_theory.proofs.DigitLaws.{number-digit}
-use Rattle.decode_long_tally.specs.Counters.{Units}
+use Rattle.decode_long_tally.specs.Internal.{Units}
 
 -- one more in digit d
 number-more : (n d : ℕ) (f g : ℕ → ℕ) → d < n → g d ≡ f d + 1 → ((v : ℕ) → v < n → v ≢ d → g v ≡ f v) → number 8 n g ≡ number 8 n f + 2 ^ (8 * d)

@@ -9,7 +9,7 @@ use native.Mathlib.Nat.{not-suc-le-zero, le-of-suc-le-suc, eq-or-lt-of-le}
 use lib.ListN.{length, set, length-set}
 use lib.Seq.{getD-set-same, getD-set-other}
 use Rattle.code_theory.specs.Sum.{at}
-use Rattle.decode_long_tally.specs.Pairs.{Pairs, Row}
+use Rattle.decode_long_tally.specs.Internal.{Pairs, Row}
 
 pub row-none : (b : ℕ) (u : List ℕ) → length u ≡ 128 → Row b u u 0
 row-none b u e = record { size = e; each = λ a l. absurd (not-suc-le-zero l); below = λ i l. refl }

@@ -7,7 +7,8 @@ use native.Mathlib.Nat.{div-one, pow-le-pow-right, le-of-suc-le-suc, add-assoc}
 use lib.Bits.{bitAnd, and-mask, and-mod, and-le-l, and-le-r}
 use lib.Pow.{shr-shr, pow-mono}
 use Rattle.code_theory.specs.Sum.{sum, at}
-use Rattle.code_theory.specs.Index.{ifClear, nthClear}
+use Rattle.code_theory.specs.Index.{ifClear}
+use Rattle.code_theory.specs.Internal.{nthClear}
 use Rattle.code_theory.specs.Modular.{subMod, same}
 use Rattle.code_theory.specs.Vote.{count, vote, votes}
 use Rattle.code_theory.specs.Question.{isAlphabet}
@@ -16,14 +17,12 @@ use Rattle.code_theory.proofs.SumLaws.{sum-ext, sum-next, sum-bound}
 use Rattle.code_theory.proofs.IndexLaws.{nth-partner-lt}
 use Rattle.code_theory.proofs.ModularLaws.{subMod-lt}
 use Rattle.code_theory.proofs.QuestionLaws.{alphabet, alphabet-bounds}
-use Rattle.swar_theory.specs.Digit.{digit}
+use Rattle.swar_theory.specs.Internal.{digit}
 use Rattle.swar_theory.proofs.DigitLaws.{digit-even, digit-odd, digit-down}
 use Rattle.decode_long_tally.proofs.CounterLaws.{units-digit}
-use Rattle.swar_lanes.specs.Lane.{offset, Lanes, Below, Packed}
-use Rattle.swar_lanes.specs.Ballot.{spot, Reach, BallotOf}
+use Rattle.swar_lanes.specs.Internal.{offset, Lanes, Below, Packed, spot, Reach, BallotOf}
 use Rattle.swar_lanes.proofs.SpotLaws.{block-sum, offset-sum, spot-sum}
-use Rattle.decode_long_tally.specs.Pairs.{Pairs, Listed}
-use Rattle.decode_long_tally.specs.Votes.{Votes, VotesOf, DifferencesOf}
+use Rattle.decode_long_tally.specs.Internal.{Pairs, Listed, Votes, VotesOf, DifferencesOf}
 
 -- the entry that code reads: two lanes are the byte's low and high half
 byte : (d : ℕ) → bitAnd d 255 ≡ digit 4 d 0 + 16 * digit 4 d 1

@@ -10,9 +10,9 @@ use Rattle.code_theory.specs.Index.{ifClear}
 use Rattle.code_theory.specs.Margin.{mostOther, lead}
 use Rattle.code_theory.proofs.ModularLaws.{same-eq, same-ne}
 use Rattle.code_theory.proofs.MarginLaws.{mostOther-le, le-mostOther, mostOther-ext}
-use Rattle.swar_theory.specs.Digit.{digit}
-use Rattle.decode_long_tally.specs.Counters.{Counts}
-use Rattle.decode_long_winner.specs.Winner.{Leads, Updates, together}
+use Rattle.swar_theory.specs.Internal.{digit}
+use Rattle.decode_long_tally.specs.Internal.{Counts}
+use Rattle.decode_long_winner.specs.Internal.{Leads, Updates, together}
 
 most-other : (n s : ℕ) (f : ℕ → ℕ) → n ≢ s → mostOther (suc n) s f ≡ max (mostOther n s f) (f n)
 unfolding mostOther ifClear

@@ -1,1 +1,1 @@
-pub mod Winner
+pub mod Internal

@@ -11,10 +11,10 @@ use Rattle.code_theory.specs.Near.{distance, Near}
 use Rattle.code_theory.specs.Margin.{margin}
 use Rattle.code_theory.specs.Nearest.{nearDistance, nearMargin}
 use Rattle.code_theory.proofs.CodeLaws.{distance-ext}
-use Rattle.code_theory.proofs.WinnerLaws.{Below}
+use Rattle.code_theory.specs.Code.{Below}
 use Rattle.code_theory.proofs.MarginLaws.{margin-ext}
 use Rattle.code_theory.proofs.NearestLaws.{Reads, only-read}
-use Rattle.decode_reading.specs.Settled.{Settled}
+use Rattle.decode_reading.specs.Internal.{Settled}
 use Rattle.decode_reading.specs.declared.Outcome.{Outcome}
 use Rattle.decode_reading.specs.declared.Outcome.the-variants.{Read, Doubtful}
 

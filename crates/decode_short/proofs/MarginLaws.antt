@@ -6,9 +6,10 @@ use Rattle.code_theory.specs.Near.{Near}
 use Rattle.code_theory.specs.Vote.{votes, tally}
 use Rattle.code_theory.specs.Margin.{lead, least, margin}
 use Rattle.code_theory.proofs.VoteLaws.{votes-ext}
-use Rattle.code_theory.proofs.WinnerLaws.{Below}
+use Rattle.code_theory.specs.Code.{Below}
 use Rattle.code_theory.proofs.MarginLaws.{least-first, least-ext, lead-ext}
-use Rattle.code_theory.proofs.ErrorLaws.{error, constant-lead, lead-le-half, lead-error}
+use Rattle.code_theory.proofs.ErrorLaws.{constant-lead, lead-le-half, lead-error}
+use Rattle.code_theory.specs.Internal.{error}
 
 -- THE MARGIN of a near message is the least lead of its coefficients, counted on the errors
 module _ (q n : ℕ) (s y place : ℕ → ℕ) (hq : 0 < q) (hs : Below q (suc n) s) (hy : (i : ℕ) → i < 2 ^ suc n → y i < q)

@@ -18,14 +18,13 @@ use Rattle.code_theory.proofs.ModularLaws.{same-le, subMod-mod, subMod-is}
 use Rattle.code_theory.proofs.CodeLaws.{linear-low}
 use Rattle.code_theory.proofs.QuestionLaws.{alphabet-positive}
 use Rattle.code_theory.proofs.VoteLaws.{tally-own, residues-exact}
-use Rattle.code_theory.proofs.WinnerLaws as winner
-use Rattle.swar_theory.specs.Digit.{digit}
-use Rattle.swar_lanes.specs.Lane.{offset, laneOf, Lanes, Below, Held}
-use Rattle.swar_lanes.specs.Ballot.{VotesIn}
+use Rattle.code_theory.specs.Code as code
+use Rattle.swar_theory.specs.Internal.{digit}
+use Rattle.swar_lanes.specs.Internal.{offset, laneOf, Lanes, Below, Held, VotesIn}
 use Rattle.swar_lanes.proofs.LaneLaws.{lane-lt, lane-place}
-use Rattle.decode_short_errors.specs.Places.{plain}
-use Rattle.swar_majority.specs.Most.{threeOf, sevenOf, fifteenOf}
-use Rattle.decode_short_candidate.specs.Candidate.{Rest, Chosen, message, CandidateOf, CandidateOfBoth}
+use Rattle.decode_short_errors.specs.Internal.{plain}
+use Rattle.swar_majority.specs.Internal.{threeOf, sevenOf, fifteenOf}
+use Rattle.decode_short_candidate.specs.Internal.{Rest, Chosen, message, CandidateOf, CandidateOfBoth}
 use Rattle.decode_short_candidate.proofs.LaneVotes.{held-at, vote-at, openOf, allOf, open-is, all-is}
 use Rattle.decode_short_candidate.proofs.LaneVotes.{open-4-0, open-4-1, open-8-0, open-8-1, open-8-2, open-16-0, open-16-1, open-16-2, open-16-3, all-8, all-halves, all-first}
 
@@ -77,7 +76,7 @@ unfolding residues count ifClear
 exactly q m s y hq hs hy = residues-exact q m s y hq hs hy
 
 -- A MESSAGE s, and a word w whose first places x holds: the votes for the symbols of s and the distance
-module _ (q m x : ℕ) (al : isAlphabet q ≡ true) (s : ℕ → ℕ) (w : List ℕ) (hs : winner.Below q m s) (held : Held w 0 x) where
+module _ (q m x : ℕ) (al : isAlphabet q ≡ true) (s : ℕ → ℕ) (w : List ℕ) (hs : code.Below q m s) (held : Held w 0 x) where
   first-vote : (k d : ℕ) → k < 4 → VotesIn q k x d → (j : ℕ) → j < 16 → bit k j ≡ 0 → digit 4 d (laneOf j) ≡ vote q k (at w) j
   first-vote k d h e j l z = vote-at q k x d w 0 h e held j l z ∙ ap (vote q k (at w)) (zero-add j)
 
@@ -168,7 +167,7 @@ below-6 q a c0 c1 c2 c3 c4 ha h0 h1 h2 h3 h4 (suc (suc (suc (suc (suc zero))))) 
 below-6 q a c0 c1 c2 c3 c4 ha h0 h1 h2 h3 h4 (suc (suc (suc (suc (suc (suc k)))))) l = absurd (omega arith)
 
 -- 4 PLACES: a near message has every vote that is counted
-module _ (q x : ℕ) (al : isAlphabet q ≡ true) (s : ℕ → ℕ) (w : List ℕ) (hs : winner.Below q 2 s) (held : Held w 0 x) (near : Near q 2 s (at w)) where
+module _ (q x : ℕ) (al : isAlphabet q ≡ true) (s : ℕ → ℕ) (w : List ℕ) (hs : code.Below q 2 s) (held : Held w 0 x) (near : Near q 2 s (at w)) where
   most-4-0 : (d : ℕ) → VotesIn q 0 x d → 1 ≤ same (digit 4 d 0) (s 1)
   most-4-0 d e = omega (arith, near, own-open q 2 x al s w hs held 0 d (omega arith) (omega arith) (omega arith) e, open-4-0 d (s 1), same-le (digit 4 d 4) (s 1))
 
@@ -197,7 +196,7 @@ module _ (q x : ℕ) (al : isAlphabet q ≡ true) (s : ℕ → ℕ) (w : List �
       )
 
 -- 8 PLACES: a near message has most of the votes that are counted
-module _ (q x : ℕ) (al : isAlphabet q ≡ true) (s : ℕ → ℕ) (w : List ℕ) (hs : winner.Below q 3 s) (held : Held w 0 x) (near : Near q 3 s (at w)) where
+module _ (q x : ℕ) (al : isAlphabet q ≡ true) (s : ℕ → ℕ) (w : List ℕ) (hs : code.Below q 3 s) (held : Held w 0 x) (near : Near q 3 s (at w)) where
   most-8-0 : (d : ℕ) → VotesIn q 0 x d → 2 ≤ threeOf d 4 8 (s 1)
   most-8-0 d e = omega (arith, near, own-open q 3 x al s w hs held 0 d (omega arith) (omega arith) (omega arith) e, open-8-0 d (s 1), same-le (digit 4 d 12) (s 1))
 
@@ -211,7 +210,7 @@ module _ (q x : ℕ) (al : isAlphabet q ≡ true) (s : ℕ → ℕ) (w : List �
   most-8 c0 c1 c2 d b e0 e1 e2 left = omega (arith, near, own-all q 3 x al s w hs held c0 c1 c2 0 d b (omega arith) left (plain-3 q c0 c1 c2 s e0 e1 e2), all-8 d (s 0))
 
 -- 16 PLACES: a near message has most of the votes that are counted
-module _ (q x : ℕ) (al : isAlphabet q ≡ true) (s : ℕ → ℕ) (w : List ℕ) (hs : winner.Below q 4 s) (held : Held w 0 x) (near : Near q 4 s (at w)) where
+module _ (q x : ℕ) (al : isAlphabet q ≡ true) (s : ℕ → ℕ) (w : List ℕ) (hs : code.Below q 4 s) (held : Held w 0 x) (near : Near q 4 s (at w)) where
   most-16-0 : (d : ℕ) → VotesIn q 0 x d → 4 ≤ sevenOf d 4 8 1 (s 1)
   most-16-0 d e = omega (arith, near, own-open q 4 x al s w hs held 0 d (omega arith) (omega arith) (omega arith) e, open-16-0 d (s 1), same-le (digit 4 d 13) (s 1))
 
@@ -229,7 +228,7 @@ module _ (q x : ℕ) (al : isAlphabet q ≡ true) (s : ℕ → ℕ) (w : List �
       omega (arith, near, own-all q 4 x al s w hs held c0 c1 c2 c3 d b (omega arith) left (plain-4 q c0 c1 c2 c3 s e0 e1 e2 e3), all-first d (s 0), open-16-3 d (s 0), same-le (digit 4 d 14) (s 0))
 
 -- 32 PLACES: a near message has most of the votes that are counted
-module _ (q x y : ℕ) (al : isAlphabet q ≡ true) (s : ℕ → ℕ) (w : List ℕ) (hs : winner.Below q 5 s) (held : Held w 0 x) (held′ : Held w 16 y) (near : Near q 5 s (at w)) where
+module _ (q x y : ℕ) (al : isAlphabet q ≡ true) (s : ℕ → ℕ) (w : List ℕ) (hs : code.Below q 5 s) (held : Held w 0 x) (held′ : Held w 16 y) (near : Near q 5 s (at w)) where
   most-32-0 : (d e : ℕ) → VotesIn q 0 x d → VotesIn q 0 y e → 8 ≤ fifteenOf d e 4 8 1 (s 1)
   unfolding fifteenOf
   most-32-0 d e f g = omega (arith, near, own-both q 5 x al s w hs held y held′ 0 d e (omega arith) refl f g, open-16-0 d (s 1), open-16-0 e (s 1), same-le (digit 4 d 13) (s 1))

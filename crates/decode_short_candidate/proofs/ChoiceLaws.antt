@@ -15,12 +15,11 @@ use Rattle.code_theory.specs.Question.{isAlphabet}
 use Rattle.code_theory.proofs.QuestionLaws.{Alphabet, alphabet, alphabet-bounds, alphabet-positive, mask-mod}
 use Rattle.code_theory.proofs.EveryLaws.{every-at}
 use Rattle.code_theory.proofs.ModularLaws.{same-ne}
-use Rattle.swar_theory.specs.Digit.{digit}
-use Rattle.swar_lanes.specs.Lane.{offset, Lanes}
-use Rattle.swar_lanes.specs.Ballot.{laneBit}
-use Rattle.decode_short_errors.specs.Places.{plain}
-use Rattle.swar_majority.specs.Most.{Most}
-use Rattle.decode_short_candidate.specs.Candidate.{Rest, Chosen}
+use Rattle.swar_theory.specs.Internal.{digit}
+use Rattle.swar_lanes.specs.Internal.{offset, Lanes, laneBit}
+use Rattle.decode_short_errors.specs.Internal.{plain}
+use Rattle.swar_majority.specs.Internal.{Most}
+use Rattle.decode_short_candidate.specs.Internal.{Rest, Chosen}
 
 -- the lanes of the word minus those of the code
 pub rest-is : (q x c0 c1 c2 c3 code d : ℕ) → Lanes code (λ t. plain q c0 c1 c2 c3 (offset t))

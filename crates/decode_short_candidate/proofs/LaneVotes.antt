@@ -14,13 +14,12 @@ use Rattle.code_theory.specs.Vote.{vote}
 use Rattle.code_theory.proofs.SumLaws.{sum-ext}
 use Rattle.code_theory.proofs.ModularLaws.{same-le}
 use Rattle.code_theory.proofs.EveryLaws.{every-at}
-use Rattle.swar_theory.specs.Digit.{digit}
+use Rattle.swar_theory.specs.Internal.{digit}
 use Rattle.swar_theory.proofs.DigitLaws.{digit-down}
-use Rattle.swar_lanes.specs.Lane.{offset, laneOf, Held}
-use Rattle.swar_lanes.specs.Ballot.{laneBit, VotesIn}
+use Rattle.swar_lanes.specs.Internal.{offset, laneOf, Held, laneBit, VotesIn}
 use Rattle.swar_lanes.proofs.LaneLaws.{lane-lt, lane-place}
 use Rattle.swar_lanes.proofs.SpotLaws.{lane-up}
-use Rattle.swar_majority.specs.Most.{threeOf, sevenOf}
+use Rattle.swar_majority.specs.Internal.{threeOf, sevenOf}
 
 -- bit k of a place is bit `laneBit k` of its lane
 same-bits : every 4 (λ k. every 16 (λ j. eqb (bit (laneBit k) (laneOf j)) (bit k j))) ≡ true

@@ -7,10 +7,9 @@ ghost use mathlib.Core.Path.{_≡_};
 ghost use mathlib.Core.Bool.{true};
 ghost use Prim.Native.Nat.{_%_, _^_, _<_};
 ghost use Rattle.code_theory.specs.Question.{isAlphabet};
-ghost use Rattle.swar_lanes.specs.Lane.{Below};
-ghost use Rattle.swar_lanes.specs.Ballot.{laneBit};
-ghost use Rattle.swar_majority.specs.Most.{threeOf, sevenOf, fifteenOf};
-ghost use Rattle.decode_short_candidate.specs.Candidate.{Rest, Chosen, messageOf, CandidateOf, CandidateOfBoth};
+ghost use Rattle.swar_lanes.specs.Internal.{Below, laneBit};
+ghost use Rattle.swar_majority.specs.Internal.{threeOf, sevenOf, fifteenOf};
+ghost use Rattle.decode_short_candidate.specs.Internal.{Rest, Chosen, messageOf, CandidateOf, CandidateOfBoth};
 
 // The word minus the word of four coefficients, modulo q: the votes for the constant.
 fn rest(q: u64, x: u64, c0: u64, c1: u64, c2: u64, c3: u64) -> u64

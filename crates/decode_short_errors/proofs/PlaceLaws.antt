@@ -15,12 +15,12 @@ use Rattle.code_theory.proofs.QuestionLaws.{alphabet, alphabet-bounds, alphabet
 use Rattle.code_theory.proofs.SumLaws.{sum-ext, sum-le}
 use Rattle.code_theory.proofs.EveryLaws.{every-at}
 use Rattle.code_theory.proofs.ModularLaws.{same-le}
-use Rattle.swar_theory.specs.Digit.{digit}
+use Rattle.swar_theory.specs.Internal.{digit}
 use Rattle.swar_theory.proofs.DigitLaws.{digit-and, digit-add, add-lt, digit-times, times-lt}
-use Rattle.swar_lanes.specs.Lane.{offset, Lanes, Below}
+use Rattle.swar_lanes.specs.Internal.{offset, Lanes, Below}
 use Rattle.swar_lanes.proofs.LaneLaws.{lanes-are, none-lanes, mask-lane, spread-lanes}
-use Rattle.decode_short_lead.specs.Lead.{Mask}
-use Rattle.decode_short_errors.specs.Places.{plain, zeroPlaces}
+use Rattle.decode_short_lead.specs.Internal.{Mask}
+use Rattle.decode_short_errors.specs.Internal.{plain, zeroPlaces}
 
 -- a times a mark, 0 or 1, is at most a
 part-le : (a d : ℕ) → d ≤ 1 → a * d ≤ a

@@ -6,10 +6,10 @@ ghost use Prim.Native.Nat.{_+_, _*_, _%_, _<_};
 ghost use Rattle.code_theory.specs.Sum.{sum};
 ghost use Rattle.code_theory.specs.Modular.{subMod};
 ghost use Rattle.code_theory.specs.Question.{isAlphabet};
-ghost use Rattle.swar_theory.specs.Digit.{digit};
-ghost use Rattle.swar_lanes.specs.Lane.{offset, Lanes, Below};
-ghost use Rattle.decode_short_lead.specs.Lead.{Mask};
-ghost use Rattle.decode_short_errors.specs.Places.{plain, zeroPlaces};
+ghost use Rattle.swar_theory.specs.Internal.{digit};
+ghost use Rattle.swar_lanes.specs.Internal.{offset, Lanes, Below};
+ghost use Rattle.decode_short_lead.specs.Internal.{Mask};
+ghost use Rattle.decode_short_errors.specs.Internal.{plain, zeroPlaces};
 
 // The lanes of c, plus a in each lane that is marked, modulo q.
 fn plus(q: u64, c: u64, a: u64, marks: u64) -> u64

@@ -4,7 +4,7 @@ use mathlib.Core.Path.{_≡_, ap, ap₂, sym, _∙_}
 use mathlib.Core.Logic.{_⊎_, inl, inr}
 use native.Mathlib.Nat.{eq-or-lt-of-le, zero-add}
 use native.Mathlib.Omega.{arith}
-use Rattle.code_theory.proofs.ErrorLaws.{sumFrom1, maxFrom1}
+use Rattle.code_theory.specs.Internal.{sumFrom1, maxFrom1}
 
 -- the sum and the maximum over the values from 1 to v, by those up to v - 1
 pub sum-more : (v : ℕ) (f : ℕ → ℕ) → 1 ≤ v → sumFrom1 (v + 1 - 1) f ≡ sumFrom1 (v - 1) f + f v

@@ -14,13 +14,12 @@ use Rattle.code_theory.proofs.SumLaws.{sum-ext, sum-const, sum-split, tabulate-
 use Rattle.code_theory.proofs.IndexLaws.{bit-low, partner-lt, second-low, second-set}
 use Rattle.code_theory.proofs.ModularLaws.{subMod-is, same-ne}
 use Rattle.code_theory.proofs.VoteLaws.{votes-ext}
-use Rattle.swar_theory.specs.Digit.{digit}
-use Rattle.swar_lanes.specs.Lane.{offset, laneOf, Lanes, Held}
-use Rattle.swar_lanes.specs.Ballot.{place, VotesWithin}
+use Rattle.swar_theory.specs.Internal.{digit}
+use Rattle.swar_lanes.specs.Internal.{offset, laneOf, Lanes, Held, place, VotesWithin}
 use Rattle.swar_lanes.proofs.LaneLaws.{offset-lt, place-lane}
 use Rattle.swar_lanes.proofs.SpotLaws.{within-sum, offset-sum}
-use Rattle.decode_short_lead.specs.Lead.{lanesEqual}
-use Rattle.decode_short_margin.specs.Margins.{placeOf, placesOf, bothVotes}
+use Rattle.decode_short_lead.specs.Internal.{lanesEqual}
+use Rattle.decode_short_margin.specs.Internal.{placeOf, placesOf, bothVotes}
 
 -- THE PLACE of lane t is the value of the lane
 pub at-lane : (x t : ℕ) → t < 16 → placeOf x (offset t) ≡ digit 4 x t

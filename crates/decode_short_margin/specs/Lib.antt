@@ -1,1 +1,1 @@
-pub mod Margins
+pub mod Internal

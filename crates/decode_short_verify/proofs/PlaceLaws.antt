@@ -9,11 +9,11 @@ use lib.ListN.{length}
 use Rattle.code_theory.specs.Sum.{sum, at}
 use Rattle.code_theory.specs.Modular.{subMod, same, differ}
 use Rattle.code_theory.proofs.ModularLaws.{subMod-lt, subMod-is, add-subMod, subMod-mod, same-eq, same-ne, differ-eq, differ-ne}
-use Rattle.swar_theory.specs.Digit.{digit}
+use Rattle.swar_theory.specs.Internal.{digit}
 use Rattle.swar_theory.proofs.DigitLaws.{digit-past, digit-even, digit-odd}
-use Rattle.swar_bytes.specs.Chunk.{Holds, from}
-use Rattle.swar_lanes.specs.Lane.{offset, Lanes, Low, Held}
-use Rattle.decode_short_errors.specs.Places.{zeroPlaces}
+use Rattle.swar_bytes.specs.Internal.{Holds, from}
+use Rattle.swar_lanes.specs.Internal.{offset, Lanes, Low, Held}
+use Rattle.decode_short_errors.specs.Internal.{zeroPlaces}
 
 -- past its end a list has 0
 pub past : (w : List ℕ) (i : ℕ) → length w ≤ i → at w i ≡ 0

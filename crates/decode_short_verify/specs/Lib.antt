@@ -1,1 +1,1 @@
-pub mod Verify
+pub mod Internal

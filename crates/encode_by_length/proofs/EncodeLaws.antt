@@ -8,7 +8,7 @@ use lib.ListN.{length}
 use Rattle.code_theory.specs.Code.{codeword}
 use Rattle.code_theory.specs.Question.{isAlphabet, isVariables, isMessageSize, isWordSize, allBelow}
 use Rattle.code_theory.proofs.QuestionLaws.{ask-yes, ask-on, ask-no, variables-bounds, message-size, word-size, symbols, after-yes, after-no}
-use Rattle.encode_codeword.specs.Coded.{Fits}
+use Rattle.encode_codeword.specs.Internal.{Fits}
 use Rattle.encode_by_length.specs.Encoder.{encodeRefusal, encodeWord}
 
 -- the answer is the number of the first question answered no, and the word is left as it is

@@ -1,4 +1,4 @@
--- What Write asks and what word it leaves, for every input (document 01: Write).
+-- What Write asks and what word it leaves, for every input (docs/REQUIREMENTS.md: Write).
 use Prim.Native.Nat.{ℕ}
 use mathlib.Core.List.{List}
 use Rattle.code_theory.specs.Code.{codeword}

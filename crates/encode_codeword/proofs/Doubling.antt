@@ -13,13 +13,13 @@ use lib.Pow.{pow-mono}
 use borrow.Author.Count.{below-none, below-more}
 use Rattle.code_theory.specs.Sum.{sum, at}
 use Rattle.code_theory.specs.Index.{bit}
-use Rattle.swar_theory.specs.Digit.{digit}
-use Rattle.swar_bytes.specs.Chunk.{Put}
+use Rattle.swar_theory.specs.Internal.{digit}
+use Rattle.swar_bytes.specs.Internal.{Put}
 use Rattle.code_theory.specs.Code.{linear, symbolAt}
 use Rattle.code_theory.specs.Question.{isAlphabet}
 use Rattle.code_theory.proofs.QuestionLaws.{alphabet, alphabet-bounds}
 use Rattle.code_theory.proofs.CodeLaws.{linear-low, linear-high, symbolAt-lt}
-use Rattle.encode_codeword.specs.Coded.{Fits, Coded, Written, Small, Doubled}
+use Rattle.encode_codeword.specs.Internal.{Fits, Coded, Written, Small, Doubled}
 
 pub doubled-none : (q len a : ℕ) (w : List ℕ) → Doubled q len a w w 0
 doubled-none q len a w = record { size = refl; low = λ j l. refl; high = below-none _; rest = λ j l. refl }

@@ -13,11 +13,11 @@ use Rattle.code_theory.specs.Code.{linear, symbolAt}
 use Rattle.code_theory.specs.Question.{isAlphabet}
 use Rattle.code_theory.proofs.CodeLaws.{linear-low, linear-high}
 use Rattle.code_theory.proofs.QuestionLaws.{alphabet, alphabet-bounds, mask-mod}
-use Rattle.swar_theory.specs.Digit.{digit, number}
+use Rattle.swar_theory.specs.Internal.{digit, number}
 use Rattle.swar_theory.proofs.DigitLaws.{digit-and}
-use Rattle.swar_bytes.specs.Chunk.{Holds, Put}
+use Rattle.swar_bytes.specs.Internal.{Holds, Put}
 use Rattle.swar_bytes.proofs.Parts.{hold-number, hold-plus, hold-ext, hold-shifted, same-four}
-use Rattle.encode_codeword.specs.Coded.{Small, Written, unreduced}
+use Rattle.encode_codeword.specs.Internal.{Small, Written, unreduced}
 
 -- an `and` with q - 1 in each digit leaves each digit modulo q
 pub reduced-each : (q x y : ℕ) → isAlphabet q ≡ true → Holds 8 y (λ l. q - 1) → (l : ℕ) → l < 8 → digit 8 (bitAnd x y) l ≡ digit 8 x l % q

@@ -9,9 +9,9 @@ ghost use lib.ListN.{length};
 ghost use Rattle.code_theory.specs.Sum.{at};
 ghost use Rattle.code_theory.specs.Index.{bit};
 ghost use Rattle.code_theory.specs.Question.{isAlphabet};
-ghost use Rattle.swar_theory.specs.Digit.{digit};
-ghost use Rattle.swar_bytes.specs.Chunk.{Holds};
-ghost use Rattle.encode_codeword.specs.Coded.{Fits, Coded, Written, Small, Doubled, unreduced};
+ghost use Rattle.swar_theory.specs.Internal.{digit};
+ghost use Rattle.swar_bytes.specs.Internal.{Holds};
+ghost use Rattle.encode_codeword.specs.Internal.{Fits, Coded, Written, Small, Doubled, unreduced};
 
 // A symbol as a u64.
 fn wide(x: u8) -> u64

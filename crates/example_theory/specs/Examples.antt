@@ -1,4 +1,4 @@
--- The twelve worked examples of document 01 ("Words from the lake") that are marked P, as they follow each other there.
+-- The twelve worked examples of docs/REQUIREMENTS.md that are marked P, as they follow each other there.
 use Prim.Native.Nat.{ℕ}
 use mathlib.Core.List.{List, [], _∷_}
 use lib.IntN.{ℤ, pos, negsuc}
@@ -11,7 +11,7 @@ use Rattle.soft_theory.specs.Complex.{Complex}
 use Rattle.soft_theory.specs.Decision.{sure, unsure}
 use Rattle.example_theory.specs.Case.{Case, writes, reads, doubtful, gathers, packs, decides, sends, receives, misses, both}
 
--- the message of examples 1 and 3 of source document 001, its word, and the word received
+-- the message of examples 1 and 3 of HPL-98-195, its word, and the word received
 abbrev pub message : List ℕ
 message = 1 ∷ 1 ∷ 3 ∷ 0 ∷ 2 ∷ []
 

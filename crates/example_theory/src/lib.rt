@@ -1,1 +1,1 @@
-// The worked examples of document 01 that are marked P, as one theorem about the definitions. There is no function here.
+// The worked examples of docs/REQUIREMENTS.md that are marked P, as one theorem about the definitions. There is no function here.

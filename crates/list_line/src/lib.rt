@@ -10,10 +10,12 @@ ghost use mathlib.Core.Bool.{true};
 ghost use mathlib.Core.List.{[], _∷_, _++_};
 ghost use Prim.Native.Nat.{_+_, _≤_};
 ghost use lib.ListN.{length};
-ghost use Rattle.text_buffer.specs.Text.{put, field};
+ghost use Rattle.text_buffer.specs.Text.{put};
+ghost use Rattle.text_buffer.specs.Internal.{field};
 ghost use Rattle.text_lines.specs.Line.{isSlot, wordOf, readLine};
 ghost use Rattle.text_lines.specs.Line as L;
-ghost use Rattle.list_line.specs.Listing.{header, zoneText, readingText, doubtfulText, missedText, overText, badText, blank, lineText, lineSession, lineEnds, Ready};
+ghost use Rattle.list_line.specs.Listing.{header, zoneText, readingText, doubtfulText, missedText, overText, badText, blank, lineText, lineSession, lineEnds};
+ghost use Rattle.list_line.specs.Internal.{Ready};
 
 // What a line leaves: the session after it, the place behind its output, and whether it ends the reading.
 pub struct Listed {

@@ -14,7 +14,8 @@ use Rattle.session_receiver.specs.declared.Receiver.{Receiver}
 use Rattle.text_chunks.specs.declared.Next.{Next}
 use Rattle.text_chunks.specs.declared.Next.the-variants.{End}
 use Rattle.text_chunks.specs.Chunks.{Progress, fed, fedText, fedCount, fedPart, endText}
-use Rattle.text_chunks.specs.Reading.{given, afterFailure, afterPart, placeOf}
+use Rattle.text_chunks.specs.Reading.{given, afterFailure, afterPart}
+use Rattle.text_chunks.specs.Internal.{placeOf}
 use Rattle.text_chunks.proofs.CountLaws.{count-le}
 use Rattle.text_chunks.proofs.PartLaws.{remaining, remaining-drop}
 use Rattle.text_chunks.proofs.ReadingLaws.{failed-place, part-place}

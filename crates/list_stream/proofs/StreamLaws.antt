@@ -9,16 +9,16 @@ use Rattle.text_buffer.proofs.PutLaws.{Written}
 use Rattle.session_receiver.specs.declared.Receiver.{Receiver}
 use Rattle.session_receiver.proofs.AfterLaws.{SameCode, receive-code, miss-code}
 use Rattle.text_lines.specs.Line.{Line, slot, miss, bad, linesFrom, readLine}
-use Rattle.text_lines.specs.Ending.{lineLength}
-use Rattle.text_chunks.specs.Chunks.{Progress, keepAll, told, joined, chunksText, endText}
-use Rattle.text_chunks.specs.Parts.{Took}
+use Rattle.text_lines.specs.Internal.{lineLength}
+use Rattle.text_chunks.specs.Chunks.{Progress, joined, chunksText, endText}
+use Rattle.text_chunks.specs.Internal.{keepAll, told, Took}
 use Rattle.text_chunks.proofs.ChunkLaws.{chunks-told}
 use Rattle.text_chunks.proofs.StepLaws.{last-some, end-last}
 use Rattle.text_chunks.proofs.PartLaws.{took-line, took-part}
 use Rattle.list_line.specs.Listing.{header, blank, lineText, lineSession, lineEnds, listed, listing, opened}
 use Rattle.list_line.specs.declared.Listed.{Listed}
 use Rattle.list_stream.specs.Stream.{reader, begun, progress, Fit}
-use Rattle.list_stream.specs.Parts.{Ended, Goes, Reads}
+use Rattle.list_stream.specs.Internal.{Ended, Goes, Reads}
 use Rattle.list_stream.specs.declared.Lister.{Lister}
 use Rattle.list_stream.specs.declared.Step.{Step}
 

@@ -14,7 +14,7 @@ ghost use Rattle.text_chunks.specs.Chunks.{fed, fedText, fedCount, endText};
 ghost use Rattle.text_chunks.specs.Reading.{given};
 ghost use Rattle.list_stream.specs.Stream.{reader, progress, Fit};
 ghost use Rattle.list_stream.specs.Rounds.{Part, RoundOf};
-ghost use Rattle.list_stream.specs.Parts.{Ended, Goes, Reads};
+ghost use Rattle.list_stream.specs.Internal.{Ended, Goes, Reads};
 
 // A listing on its way: the session, how many bytes of the line that has begun are kept, and whether the reading has ended.
 pub struct Lister {

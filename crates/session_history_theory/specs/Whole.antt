@@ -1,4 +1,4 @@
--- DEMAND 3 (document 01: Whole sessions): what holds of two whole lists of calls, sentence by sentence.
+-- DEMAND 3 (docs/REQUIREMENTS.md: Whole sessions): what holds of two whole lists of calls, sentence by sentence.
 use Prim.Native.Nat.{ℕ, suc, _*_, _^_, _<_}
 use mathlib.Core.Path.{_≡_}
 use mathlib.Core.Logic.{_≢_, _↔_}

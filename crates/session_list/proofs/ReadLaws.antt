@@ -6,7 +6,8 @@ use lib.IntN.{ℤ, pos, negsuc}
 use Rattle.libc.specs.Io.{Moved}
 use Rattle.text_chunks.specs.declared.Next.{Next}
 use Rattle.text_chunks.specs.declared.Next.the-variants.{Read, Rest, End, Failed}
-use Rattle.text_chunks.specs.Reading.{given, IfRest}
+use Rattle.text_chunks.specs.Reading.{given}
+use Rattle.text_chunks.specs.Internal.{IfRest}
 
 -- the code hands it on as z
 pub moved-given : (r z : ℤ) (n m : ℕ) → z ≡ r → Moved n r → m ≡ n → given z ≤ m

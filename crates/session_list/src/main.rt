@@ -8,7 +8,8 @@ ghost use mathlib.Core.Path.{_≡_};
 ghost use mathlib.Core.Bool.{true, false};
 ghost use Prim.Native.Nat.{_≤_};
 ghost use lib.ListN.{length};
-ghost use Rattle.text_chunks.specs.Reading.{given, placeOf, goesOn, IfRest};
+ghost use Rattle.text_chunks.specs.Reading.{given};
+ghost use Rattle.text_chunks.specs.Internal.{placeOf, goesOn, IfRest};
 
 // Where the listing stands: what the last read gave, and its error; the place in the chunk up to which it is listed; whether it goes on.
 struct Place {

@@ -10,8 +10,8 @@ use Rattle.code_theory.specs.Code.{codeword}
 use Rattle.code_theory.proofs.CodeLaws.{symbolAt-ext, codeword-is}
 use Rattle.code_theory.proofs.QuestionLaws.{variables-bounds}
 use Rattle.code_theory.proofs.TurnLaws.{constant-set}
-use Rattle.encode_codeword.specs.Coded.{Fits, Written}
-use Rattle.session_sender.specs.Step.{Placed, Sendable}
+use Rattle.encode_codeword.specs.Internal.{Fits, Written}
+use Rattle.session_sender.specs.Internal.{Placed, Sendable}
 
 -- THE MESSAGE COPIED to the front of w, and then the constant set in place 0
 module _ (constant : ℕ) (message w copy : List ℕ) (some : 0 < length message) (h : length message ≤ length w)

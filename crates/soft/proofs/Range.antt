@@ -11,7 +11,7 @@ use lib.Ieee.{Float, binary32, ofBits, ofInt, neg, le}
 use Rattle.code_theory.specs.Sum.{every}
 use Rattle.soft_theory.specs.Numbers.{f32}
 use Rattle.soft_theory.specs.Soft.{inRange, allInRange}
-use Rattle.soft.specs.Work.{rangeTo}
+use Rattle.soft.specs.Internal.{rangeTo}
 
 top-bits : ofBits binary32 1123942400 ≡ ofInt binary32 (pos 127)
 unfolding ofBits ofInt

@@ -21,9 +21,9 @@ use Rattle.soft_theory.specs.Complex.{Complex, sample}
 use Rattle.soft_theory.specs.Decision.{Decision, decide, isSure, symbol}
 use Rattle.soft_theory.specs.Soft.{voteSums, coefficient, constantSums, decision, softMessage, allInRange, allSure, readRefusal, readAnswer, readMessage}
 use Rattle.soft_theory.proofs.DecisionLaws.{symbol-lt, constant-ext, all-sure}
-use Rattle.soft_vote_sums.specs.Work.{Samples}
-use Rattle.soft_constant_sums.specs.Work.{Coefficients, coefficientsIn}
-use Rattle.soft.specs.Work.{sliceRefusal, sampleRefusal, sureTo, Found, constantDecision}
+use Rattle.soft_vote_sums.specs.Internal.{Samples}
+use Rattle.soft_constant_sums.specs.Internal.{Coefficients, coefficientsIn}
+use Rattle.soft.specs.Internal.{sliceRefusal, sampleRefusal, sureTo, Found, constantDecision}
 
 -- what the code learns of a decision by the sums z
 pub tested : (z w : Complex Float) (d : Decision Float) (t : Bool) → z ≡ w → d ≡ decide f32 z → t ≡ isSure d → t ≡ isSure (decide f32 w)

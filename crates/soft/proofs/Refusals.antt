@@ -15,8 +15,8 @@ use Rattle.soft_theory.specs.Numbers.{f32}
 use Rattle.soft_theory.specs.Complex.{Complex, sample}
 use Rattle.soft_theory.specs.Decision.{refused, decide}
 use Rattle.soft_theory.specs.Soft.{allInRange, voteSums, voteRefusal, voteAnswer, softVote}
-use Rattle.soft_vote_sums.specs.Work.{Samples}
-use Rattle.soft.specs.Work.{sliceRefusal, sampleRefusal}
+use Rattle.soft_vote_sums.specs.Internal.{Samples}
+use Rattle.soft.specs.Internal.{sliceRefusal, sampleRefusal}
 
 no : (b : Bool) (n rest : ℕ) → b ≡ false → n ≡ ask b n rest
 unfolding ask

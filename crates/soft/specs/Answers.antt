@@ -1,4 +1,4 @@
--- The number of document 01 for each case of the answer of the soft read.
+-- The number of docs/REQUIREMENTS.md for each case of the answer of the soft read.
 use mathlib.Core.List.{[]}
 use Rattle.code_theory.specs.Question.{Answer, accepted, refused}
 use Rattle.soft.specs.declared.SoftRead.{SoftRead}

@@ -12,15 +12,16 @@ use lib.ListN.{length, getD, set, length-set}
 use lib.Pow.{pow-mono}
 use lib.Seq.{getD-set-same, getD-set-other}
 use lib.Ieee.{Float}
-use Rattle.code_theory.specs.Index.{nthClear}
+use Rattle.code_theory.specs.Internal.{nthClear}
 use Rattle.soft_theory.specs.Numbers.{f32}
 use Rattle.soft_theory.specs.Complex.{Complex, sample, plus}
 use Rattle.soft_theory.specs.Soft.{voteSums}
-use Rattle.soft_theory.proofs.SumsLaws.{votesTo, votes-all}
+use Rattle.soft_theory.proofs.SumsLaws.{votes-all}
+use Rattle.soft_theory.specs.Internal.{votesTo}
 use Rattle.soft_vote_sums.specs.declared.Sums.{Sums}
-use Rattle.soft_vote_sums.specs.Pair.{pair, complex}
-use Rattle.soft_vote_sums.specs.Work.{Samples, voteAt}
-use Rattle.soft_all_sums.specs.Work.{none, nones, zeros, held, inRow, Put, Rows, votesOf, sumsOf, Past, SumsTo, Stored, AllSums}
+use Rattle.soft_vote_sums.specs.Pair.{pair}
+use Rattle.soft_vote_sums.specs.Internal.{complex, Samples, voteAt}
+use Rattle.soft_all_sums.specs.Internal.{none, nones, zeros, held, inRow, Put, Rows, votesOf, sumsOf, Past, SumsTo, Stored, AllSums}
 use Rattle.soft_vote_sums.proofs.Steps.{votes-none, vote-next, even-samples}
 
 -- ---- four consecutive places stand at four consecutive indices

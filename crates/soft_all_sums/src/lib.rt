@@ -5,10 +5,10 @@ ghost use Prim.Native.Nat.{_+_, _*_, _/_, _<_, _≤_};
 ghost use lib.ListN.{length};
 ghost use Rattle.soft_theory.specs.Numbers.{f32};
 ghost use Rattle.soft_theory.specs.Complex.{sample};
-ghost use Rattle.soft_theory.proofs.SumsLaws.{votesTo};
+ghost use Rattle.soft_theory.specs.Internal.{votesTo};
 ghost use Rattle.soft_vote_sums.specs.Pair.{pair};
-ghost use Rattle.soft_vote_sums.specs.Work.{Samples};
-ghost use Rattle.soft_all_sums.specs.Work.{Put, Rows, zeros, SumsTo, votesOf, sumsOf, Stored, AllSums};
+ghost use Rattle.soft_vote_sums.specs.Internal.{Samples};
+ghost use Rattle.soft_all_sums.specs.Internal.{Put, Rows, zeros, SumsTo, votesOf, sumsOf, Stored, AllSums};
 
 // The votes at eight places of coefficient k from 8 b on, put into its row. Four consecutive places stand at four consecutive indices.
 fn put_row(m: u32, k: u32, b: usize, re: &[f32], im: &[f32], rows: &mut [f32])

@@ -13,15 +13,14 @@ use Rattle.code_theory.specs.Sum.{at, sum}
 use Rattle.code_theory.specs.Index.{bit}
 use Rattle.code_theory.specs.Code.{linear, symbolAt}
 use Rattle.code_theory.specs.Question.{isAlphabet}
-use Rattle.encode_codeword.specs.Coded.{Fits, Written}
+use Rattle.encode_codeword.specs.Internal.{Fits, Written}
 use Rattle.soft_theory.specs.Numbers.{f32}
 use Rattle.soft_theory.specs.Complex.{Complex, sample, turnBack, plus}
 use Rattle.soft_theory.specs.Soft.{constantSums}
 use Rattle.soft_theory.proofs.SumsLaws.{sums-none, sums-next, backTo, back-all}
 use Rattle.soft_vote_sums.proofs.Steps.{zero-bits}
-use Rattle.soft_vote_sums.specs.Pair.{complex}
-use Rattle.soft_vote_sums.specs.Work.{Samples}
-use Rattle.soft_constant_sums.specs.Work.{Coefficients, coefficientsIn, Turns}
+use Rattle.soft_vote_sums.specs.Internal.{complex, Samples}
+use Rattle.soft_constant_sums.specs.Internal.{Coefficients, coefficientsIn, Turns}
 
 -- ---- the turns are a word
 pub turns-fit : (q m : ℕ) (found t : List ℕ) → isAlphabet q ≡ true → 4 ≤ q → 2 ≤ m → m ≤ 8 → Coefficients m found → length t ≡ 256 → Fits q m found t

@@ -4,13 +4,13 @@ ghost use mathlib.Core.Path.{_≡_};
 ghost use Prim.Native.Nat.{_<_, _≤_};
 ghost use lib.ListN.{length};
 ghost use Rattle.code_theory.specs.Sum.{at};
-ghost use Rattle.encode_codeword.specs.Coded.{Written};
+ghost use Rattle.encode_codeword.specs.Internal.{Written};
 ghost use Rattle.soft_theory.specs.Numbers.{f32};
 ghost use Rattle.soft_theory.specs.Complex.{sample, turnBack};
 ghost use Rattle.soft_theory.specs.Soft.{constantSums};
-ghost use Rattle.soft_vote_sums.specs.Pair.{pair, complex};
-ghost use Rattle.soft_vote_sums.specs.Work.{Samples};
-ghost use Rattle.soft_constant_sums.specs.Work.{Coefficients, coefficientsIn, Turns};
+ghost use Rattle.soft_vote_sums.specs.Pair.{pair};
+ghost use Rattle.soft_vote_sums.specs.Internal.{complex, Samples};
+ghost use Rattle.soft_constant_sums.specs.Internal.{Coefficients, coefficientsIn, Turns};
 
 // The quarter turns that the coefficients in found ask for at each index: the word of found, whose constant is 0. The other places stay.
 pub fn quarter_turns(m: u32, found: &[u8], turns: &mut [u8])

@@ -1,4 +1,4 @@
--- The number and the values of document 01 for each case of the answer of one soft vote.
+-- The number and the values of docs/REQUIREMENTS.md for each case of the answer of one soft vote.
 use lib.Ieee.{Float}
 use Rattle.soft_theory.specs.Decision.{Decision, sure, unsure, refused}
 use Rattle.soft_vote_sums.specs.Pair.{pair}

@@ -7,12 +7,13 @@ use lib.IntN.{ℤ, _*ℤ_, natAbs}
 use lib.Ieee.{Float}
 use lib.Pow.{pow-mono}
 use Rattle.code_theory.specs.Code.{linear}
-use Rattle.code_theory.specs.Index.{nthClear}
+use Rattle.code_theory.specs.Internal.{nthClear}
 use Rattle.code_theory.proofs.IndexLaws.{nth-partner-lt}
 use Rattle.soft_theory.specs.Numbers.{f32, integers}
 use Rattle.soft_theory.specs.Complex.{Complex, term, turnBack, plus, stepIfClear, upward, sums}
 use Rattle.soft_theory.specs.Soft.{voteSums, constantSums}
-use Rattle.soft_theory.proofs.SumsLaws.{votesTo, votes-all}
+use Rattle.soft_theory.proofs.SumsLaws.{votes-all}
+use Rattle.soft_theory.specs.Internal.{votesTo}
 use Rattle.soft_exact_theory.specs.Whole.{Whole, WholeParts, Within}
 use Rattle.soft_exact_theory.proofs.Integers.{abs-add, abs-sub, abs-mul, abs-neg}
 use Rattle.soft_exact_theory.proofs.WholeLaws.{whole-add, whole-sub, whole-mul, whole-neg, whole-number}

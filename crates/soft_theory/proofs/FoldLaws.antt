@@ -3,7 +3,8 @@ use Prim.Native.Nat.{ℕ, zero, suc, _*_, _^_, _≤_, _<_}
 use mathlib.Core.Path.{_≡_, refl, ap, ap₂, sym, _∙_, fun-ext}
 use native.Mathlib.Nat.{pow-succ', not-suc-le-zero}
 use native.Mathlib.Omega.{arith}
-use Rattle.code_theory.specs.Index.{bit, nthClear}
+use Rattle.code_theory.specs.Index.{bit}
+use Rattle.code_theory.specs.Internal.{nthClear}
 use Rattle.code_theory.proofs.IndexLaws.{bit-zero, bit-suc, nth-zero, nth-even, nth-odd}
 use Rattle.soft_theory.specs.Complex.{stepIfClear, upward}
 

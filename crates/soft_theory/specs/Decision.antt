@@ -1,4 +1,4 @@
--- The decision for one symbol by its two sums (source document 000, with the tangent 2/3).
+-- The decision for one symbol by its two sums (Feldman, Abou-Faycal and Frigo, with their tangent 2/3).
 use Prim.Native.Nat.{ℕ}
 use mathlib.Core.Bool.{Bool, true, false, cond, _&&_}
 use Rattle.soft_theory.specs.Numbers.{Numbers}

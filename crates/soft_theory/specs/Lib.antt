@@ -1,5 +1,6 @@
--- What a reader must believe, in reading order.
+-- What a reader must believe, in reading order; Internal only serves the code.
 pub mod Numbers
 pub mod Complex
 pub mod Decision
 pub mod Soft
+pub mod Internal

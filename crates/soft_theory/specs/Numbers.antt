@@ -6,7 +6,7 @@ use lib.Signed.{ltZ, leZ}
 use lib.Ieee.{Float, binary32, ofInt}
 use lib.Ieee as ieee
 
--- the operations that document 01 asks for, and the numbers 0, 2, 3 and 127
+-- the operations that docs/REQUIREMENTS.md asks for, and the numbers 0, 2, 3 and 127
 pub record Numbers (A : Type 0) : Type 0 where
   pub number : ℕ → A
   pub add : A → A → A

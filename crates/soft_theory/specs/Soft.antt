@@ -1,4 +1,4 @@
--- One soft vote and the soft read, for every input (document 01: Soft samples).
+-- One soft vote and the soft read, for every input (docs/REQUIREMENTS.md: Soft samples).
 use Prim.Native.Nat.{ℕ, zero, suc, _+_, _%_, _^_}
 use mathlib.Core.Bool.{Bool, _&&_}
 use mathlib.Core.List.{List, [], map}

@@ -9,14 +9,14 @@ use lib.Seq.{take-all, getD-drop}
 use lib.Pow.{pow-mono}
 use lib.IntN.{pos}
 use lib.Ieee.{Float, binary32, ofBits, ofInt}
-use Rattle.code_theory.specs.Index.{nthClear}
+use Rattle.code_theory.specs.Internal.{nthClear}
 use Rattle.code_theory.proofs.IndexLaws.{nth-partner-lt}
 use Rattle.soft_theory.specs.Numbers.{f32}
 use Rattle.soft_theory.specs.Complex.{Complex, sample, term, plus}
 use Rattle.soft_theory.specs.Soft.{voteSums}
-use Rattle.soft_theory.proofs.SumsLaws.{sums-none, sums-next, votesTo, votes-all}
-use Rattle.soft_vote_sums.specs.Pair.{complex}
-use Rattle.soft_vote_sums.specs.Work.{Samples, voteAt}
+use Rattle.soft_theory.proofs.SumsLaws.{sums-none, sums-next, votes-all}
+use Rattle.soft_theory.specs.Internal.{votesTo}
+use Rattle.soft_vote_sums.specs.Internal.{complex, Samples, voteAt}
 
 -- the numbers that the code writes
 pub zero-bits : ofBits binary32 0 ≡ ofInt binary32 (pos 0)

@@ -6,7 +6,3 @@ use Rattle.soft_vote_sums.specs.declared.Sums.{Sums}
 -- both sums as one complex number
 unfoldable pub pair : Sums → Complex Float
 pair s = record { re = s .re; im = s .im }
-
--- the complex number of two parts
-abbrev pub complex : Float → Float → Complex Float
-complex x y = record { re = x; im = y }

@@ -2,12 +2,12 @@
 ghost use mathlib.Core.Path.{_≡_};
 ghost use Prim.Native.Nat.{_/_, _<_};
 ghost use lib.ListN.{length, getD};
-ghost use Rattle.code_theory.specs.Index.{nthClear};
+ghost use Rattle.code_theory.specs.Internal.{nthClear};
 ghost use Rattle.soft_theory.specs.Numbers.{f32};
 ghost use Rattle.soft_theory.specs.Complex.{sample, term, plus};
 ghost use Rattle.soft_theory.specs.Soft.{voteSums};
-ghost use Rattle.soft_vote_sums.specs.Pair.{pair, complex};
-ghost use Rattle.soft_vote_sums.specs.Work.{Samples, voteAt};
+ghost use Rattle.soft_vote_sums.specs.Pair.{pair};
+ghost use Rattle.soft_vote_sums.specs.Internal.{complex, Samples, voteAt};
 
 // The real and the imaginary sum of a vote, kept together.
 pub struct Sums {

@@ -1,4 +1,4 @@
--- What pack and unpack answer and leave, for every input (document 01: strap packing, q = 4, m = 4).
+-- What pack and unpack answer and leave, for every input (docs/REQUIREMENTS.md: strap packing, q = 4, m = 4).
 use Prim.Native.Nat.{ℕ, _+_, _*_, _/_, _%_, _^_}
 use mathlib.Core.Bool.{Bool}
 use mathlib.Core.List.{List, [], _∷_}
@@ -51,7 +51,7 @@ unpackRefusal message = ask (isMessageSize 4 message) 5 (ask (allBelow 4 message
 unfoldable pub unpackAnswer : List ℕ → Answer
 unpackAnswer message = answer (unpackRefusal message) (rateOf message ∷ zoneOf message ∷ [])
 
--- the paper's number and values for each case of the enums
+-- the number and the values of docs/REQUIREMENTS.md for each case of the enums
 unfoldable pub packed : Packed → Answer
 packed P.Filled = accepted []
 packed (P.Refused number) = refused number

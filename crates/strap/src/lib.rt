@@ -20,7 +20,7 @@ pub enum Unpacked {
     Refused(u32),
 }
 
-// Fills the message with the rate and the zone (document 01: Pack).
+// Fills the message with the rate and the zone (docs/REQUIREMENTS.md: Pack).
 pub fn pack(message: &mut [u8], rate: u8, zone: u8) -> Packed
     ensures answer { λ r. ⌜ packed r ≡ packAnswer (now (message .entry)) zone ⌝ }
     ensures buffer { λ r. ⌜ now (message .exit) ≡ packMessage (now (message .entry)) rate zone ⌝ }
@@ -37,7 +37,7 @@ pub fn pack(message: &mut [u8], rate: u8, zone: u8) -> Packed
     Packed::Filled
 }
 
-// What the message says of rate and zone (document 01: Unpack).
+// What the message says of rate and zone (docs/REQUIREMENTS.md: Unpack).
 pub fn unpack(message: &[u8]) -> Unpacked
     ensures { λ r. ⌜ unpacked r ≡ unpackAnswer (now (message .entry)) ⌝ }
 {

@@ -9,9 +9,9 @@ use lib.ListN.{length, set, length-set}
 use lib.Seq.{getD-set-same, getD-set-other}
 use lib.Pow.{pow-add, pow-mono, high}
 use Rattle.code_theory.specs.Sum.{sum, at}
-use Rattle.swar_theory.specs.Digit.{digit, number}
+use Rattle.swar_theory.specs.Internal.{digit, number}
 use Rattle.swar_theory.proofs.DigitLaws.{digit-under, digit-down, number-lt, number-digit, digit-add, add-lt}
-use Rattle.swar_bytes.specs.Chunk.{Holds, Put}
+use Rattle.swar_bytes.specs.Internal.{Holds, Put}
 
 -- a symbol below 256 is a number of one digit
 pub hold-one : (x : ℕ) (f : ℕ → ℕ) → x ≡ f 0 → x < 256 → Holds 1 x f

@@ -1,1 +1,1 @@
-pub mod Chunk
+pub mod Internal

@@ -6,8 +6,8 @@ ghost use Prim.Native.Nat.{ℕ, _+_, _-_, _<_, _≤_};
 ghost use lib.ListN.{length};
 ghost use Rattle.code_theory.specs.Sum.{at};
 ghost use Rattle.code_theory.specs.Question.{isAlphabet};
-ghost use Rattle.swar_theory.specs.Digit.{digit};
-ghost use Rattle.swar_bytes.specs.Chunk.{Holds, from, Put};
+ghost use Rattle.swar_theory.specs.Internal.{digit};
+ghost use Rattle.swar_bytes.specs.Internal.{Holds, from, Put};
 
 // The symbol at place i.
 fn wide(s: &[u8], i: usize) -> u64

@@ -19,10 +19,9 @@ use Rattle.code_theory.proofs.IndexLaws.{bit-lt, by-bit}
 use Rattle.code_theory.proofs.ModularLaws.{subMod-code, subMod-lt}
 use Rattle.code_theory.proofs.QuestionLaws.{Alphabet, alphabet, alphabet-bounds, alphabet-positive, mask-mod}
 use Rattle.code_theory.proofs.EveryLaws.{every-at}
-use Rattle.swar_theory.specs.Digit.{digit}
+use Rattle.swar_theory.specs.Internal.{digit}
 use Rattle.swar_theory.proofs.DigitLaws.{digit-lt, digit-past, digit-and, digit-add, add-lt, digit-sub, sub-le, digit-times, digit-down}
-use Rattle.swar_lanes.specs.Ballot.{laneBit, VotesIn}
-use Rattle.swar_lanes.specs.Lane.{offset, laneOf, Lanes, Below, ClearLanes, Blend}
+use Rattle.swar_lanes.specs.Internal.{laneBit, VotesIn, offset, laneOf, Lanes, Below, ClearLanes, Blend}
 
 -- the lanes of a literal, by one computed test
 pub lanes-are : (x : ℕ) (f : ℕ → ℕ) → every 16 (λ t. eqb (digit 4 x t) (f t)) ≡ true → Lanes x f

@@ -11,12 +11,12 @@ use lib.Seq.{getD-set-same, getD-set-other}
 use borrow.Author.Tests.{eqb-true}
 use lib.Dec.{eqb}
 use Rattle.code_theory.specs.Sum.{at, every}
-use Rattle.code_theory.specs.Word.{WellFormed}
+use Rattle.code_theory.specs.Internal.{WellFormed}
 use Rattle.code_theory.proofs.EveryLaws.{every-at}
 use Rattle.code_theory.proofs.WordLaws.{bounds}
-use Rattle.swar_theory.specs.Digit.{digit}
+use Rattle.swar_theory.specs.Internal.{digit}
 use Rattle.swar_theory.proofs.DigitLaws.{digit-add, sub-le, digit-times, times-lt, digit-even, digit-odd}
-use Rattle.swar_lanes.specs.Lane.{offset, Low, Held, Loaded}
+use Rattle.swar_lanes.specs.Internal.{offset, Low, Held, Loaded}
 
 -- every symbol of a received word fits a lane
 pub word-low : (q m : ℕ) (w : List ℕ) → WellFormed q m w → Low w

@@ -11,10 +11,9 @@ use Rattle.code_theory.specs.Modular.{subMod}
 use Rattle.code_theory.specs.Vote.{vote}
 use Rattle.code_theory.specs.Question.{isAlphabet}
 use Rattle.code_theory.proofs.IndexLaws.{bit-lt, by-bit}
-use Rattle.swar_theory.specs.Digit.{digit}
+use Rattle.swar_theory.specs.Internal.{digit}
 use Rattle.swar_theory.proofs.DigitLaws.{digit-under, digit-mod, digit-down, digit-up}
-use Rattle.swar_lanes.specs.Lane.{Lanes, Below, Blend}
-use Rattle.swar_lanes.specs.Ballot.{laneBit, place, VotesWithin}
+use Rattle.swar_lanes.specs.Internal.{Lanes, Below, Blend, laneBit, place, VotesWithin}
 use Rattle.swar_lanes.proofs.LaneLaws.{none-below}
 use Rattle.swar_lanes.proofs.SpotLaws.{lane-up, lane-down, place-low, place-high}
 

@@ -1,2 +1,1 @@
-pub mod Lane
-pub mod Ballot
+pub mod Internal

@@ -7,9 +7,8 @@ ghost use lib.ListN.{length};
 ghost use Rattle.code_theory.specs.Sum.{at};
 ghost use Rattle.code_theory.specs.Modular.{subMod};
 ghost use Rattle.code_theory.specs.Question.{isAlphabet};
-ghost use Rattle.swar_theory.specs.Digit.{digit};
-ghost use Rattle.swar_lanes.specs.Lane.{Lanes, Below, Within, Low, Held, Loaded, ClearLanes, Blend};
-ghost use Rattle.swar_lanes.specs.Ballot.{laneBit, VotesIn, VotesWithin, Reach, BallotOf};
+ghost use Rattle.swar_theory.specs.Internal.{digit};
+ghost use Rattle.swar_lanes.specs.Internal.{Lanes, Below, Within, Low, Held, Loaded, ClearLanes, Blend, laneBit, VotesIn, VotesWithin, Reach, BallotOf};
 
 // A number with 15 in every lane whose number has bit l clear, and 0 in the others.
 fn clear(l: u32) -> u64

@@ -7,8 +7,8 @@ use lib.Pow.{shr-shr}
 use lib.Bits.{bitAnd, bitOr, bitXor, and-shr, or-shr, xor-shr, and-step, or-step, xor-add-and}
 use Rattle.code_theory.specs.Index.{bit}
 use Rattle.code_theory.proofs.IndexLaws.{bit-lt}
-use Rattle.swar_theory.specs.Digit.{digit}
-use Rattle.swar_majority.specs.Sliced.{Parity, Carry, Down, sevenBits, Counted}
+use Rattle.swar_theory.specs.Internal.{digit}
+use Rattle.swar_majority.specs.Internal.{Parity, Carry, Down, sevenBits, Counted}
 
 -- the lowest bit of `and`, `or` and `xor`
 and-low : (a b : ℕ) → bitAnd a b % 2 ≡ min (a % 2) (b % 2)

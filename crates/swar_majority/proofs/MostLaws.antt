@@ -10,9 +10,8 @@ use Rattle.code_theory.specs.Index.{bit}
 use Rattle.code_theory.specs.Modular.{same}
 use Rattle.code_theory.proofs.IndexLaws.{bit-lt, by-bit}
 use Rattle.code_theory.proofs.ModularLaws.{same-eq, same-ne}
-use Rattle.swar_theory.specs.Digit.{digit}
-use Rattle.swar_majority.specs.Most.{threeOf, sevenOf, fifteenOf, Most}
-use Rattle.swar_majority.specs.Sliced.{Carry, Down, sevenBits, Counted}
+use Rattle.swar_theory.specs.Internal.{digit}
+use Rattle.swar_majority.specs.Internal.{threeOf, sevenOf, fifteenOf, Most, Carry, Down, sevenBits, Counted}
 use Rattle.swar_majority.proofs.BitLaws.{lane-bit}
 
 -- what a count of bits tells: of n lanes, s are v and k have bit j set, where bit j of v is w

@@ -1,8 +1,7 @@
 // The value that most of 3, 7 or 15 lanes of four bits have, with no loop: a full adder on whole numbers counts the bits of the lanes,
 // one count at each bit of a number.
 ghost use Prim.Native.Nat.{_+_, _<_};
-ghost use Rattle.swar_majority.specs.Most.{threeOf, sevenOf, fifteenOf, Most};
-ghost use Rattle.swar_majority.specs.Sliced.{Parity, Carry, Down, Counted};
+ghost use Rattle.swar_majority.specs.Internal.{threeOf, sevenOf, fifteenOf, Most, Parity, Carry, Down, Counted};
 
 // At each bit, the low bit of the sum of three bits.
 fn parity(a: u64, b: u64, c: u64) -> u64

@@ -9,7 +9,7 @@ use lib.Pow.{pow-add, pow-mono, pow-pos, split, high, shr-mod, shr-shr, shl-shr,
 use lib.Bits.{bitAnd, bitXor, and-shr, and-mod, xor-shr, xor-mod}
 use Rattle.code_theory.specs.Sum.{sum}
 use Rattle.code_theory.proofs.SumLaws.{sum-ext, sum-add}
-use Rattle.swar_theory.specs.Digit.{digit, number}
+use Rattle.swar_theory.specs.Internal.{digit, number}
 
 next-power : (b n : ℕ) → 2 ^ (b * suc n) ≡ 2 ^ b * 2 ^ (b * n)
 next-power b n = ap (λ x. 2 ^ x) (mul-suc b n ∙ add-comm (b * n) b) ∙ pow-add 2 b (b * n)

@@ -9,7 +9,8 @@ use native.Mathlib.Omega.{arith}
 use borrow.Author.Tests.{lt-ltb, le-ltb, ltb-true, ltb-false}
 use lib.Dec.{ltb}
 use lib.ListN.{length, set, length-append}
-use Rattle.text_buffer.specs.Text.{decimalWithin, decimal, field, put}
+use Rattle.text_buffer.specs.Text.{decimalWithin, decimal, put}
+use Rattle.text_buffer.specs.Internal.{field}
 use Rattle.text_buffer.proofs.PutLaws.{put-none, put-before, put-one}
 
 -- places to spare change nothing

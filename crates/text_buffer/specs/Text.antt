@@ -27,10 +27,6 @@ spaced [] = 10 ∷ []
 spaced (w ∷ []) = w ++ (10 ∷ [])
 spaced (w ∷ v ∷ ws) = w ++ (32 ∷ spaced (v ∷ ws))
 
--- n in decimal and the byte that ends it
-unfoldable pub field : ℕ → ℕ → List ℕ
-field n end = decimal n ++ (end ∷ [])
-
 -- the buffer with the text in it from place at on
 unfoldable pub put : List ℕ → ℕ → List ℕ → List ℕ
 put buffer at text = take at buffer ++ (text ++ drop (at + length text) buffer)

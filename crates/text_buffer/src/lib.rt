@@ -3,7 +3,8 @@ ghost use mathlib.Core.Path.{_≡_};
 ghost use mathlib.Core.List.{[], _∷_};
 ghost use Prim.Native.Nat.{_+_, _/_, _%_, _≤_, _<_};
 ghost use lib.ListN.{length};
-ghost use Rattle.text_buffer.specs.Text.{put, decimal, field};
+ghost use Rattle.text_buffer.specs.Text.{put, decimal};
+ghost use Rattle.text_buffer.specs.Internal.{field};
 
 // Puts the text into the buffer from place `at` on, and returns the place after it.
 pub fn put_text(text: &[u8], out: &mut [u8], at: usize) -> usize

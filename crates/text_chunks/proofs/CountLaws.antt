@@ -8,7 +8,7 @@ use native.Mathlib.Omega.{arith}
 use borrow.Author.Tests.{eqb-false, lt-ltb, le-ltb}
 use lib.Dec.{eqb, ltb}
 use lib.ListN.{length, take, drop, length-append, drop-of-length-le}
-use Rattle.text_lines.specs.Ending.{lineLength}
+use Rattle.text_lines.specs.Internal.{lineLength}
 use Rattle.text_lines.proofs.EndingLaws.{line-step}
 use Rattle.text_chunks.specs.Chunks.{Reader, Progress, longer, step, stepText, fed, fedText, fedCount}
 use Rattle.text_chunks.proofs.StepLaws.{step-keep, text-keep}

@@ -9,7 +9,8 @@ use borrow.Author.Tests.{lt-ltb, le-ltb}
 use lib.ListN.{length, take, drop, set, length-append, drop-of-length-le}
 use lib.Seq.{drop-cons, take-suc-set, length-take-le}
 use Rattle.code_theory.specs.Sum.{at}
-use Rattle.text_chunks.specs.Chunks.{keep, keepAll}
+use Rattle.text_chunks.specs.Chunks.{keep}
+use Rattle.text_chunks.specs.Internal.{keepAll}
 
 -- a byte that is kept, and one for which there is no room
 pub keep-room : (part : List ℕ) (b : ℕ) → length part < 17 → keep part b ≡ part ++ (b ∷ [])

@@ -7,10 +7,10 @@ use native.Mathlib.Omega.{arith}
 use lib.ListN.{length, take}
 use lib.Seq.{length-take-le}
 use Rattle.text_lines.specs.Line.{slot, miss, wordOf, readLine}
-use Rattle.text_lines.specs.Ending.{lineLength, hasSlot, hasMiss}
+use Rattle.text_lines.specs.Internal.{lineLength, hasSlot, hasMiss}
 use Rattle.text_lines.proofs.LineLaws.{reads-slot, reads-miss}
 use Rattle.text_lines.proofs.EndingLaws.{slot-ends, miss-ends}
-use Rattle.text_chunks.specs.Chunks.{keepAll}
+use Rattle.text_chunks.specs.Internal.{keepAll}
 use Rattle.text_chunks.proofs.KeepLaws.{keeps-whole}
 
 -- a short line of which nothing was kept before is kept whole

@@ -12,10 +12,10 @@ use lib.ListN.{length, take, drop, length-append, length-drop, take-append-drop}
 use lib.Seq.{length-take-le, take-suc, take-all, take-add}
 use Rattle.text_buffer.proofs.PutLaws.{put-none, put-fits, Written, written-as, written-then}
 use Rattle.text_lines.specs.Line.{Line, readLine}
-use Rattle.text_lines.specs.Ending.{lineLength}
+use Rattle.text_lines.specs.Internal.{lineLength}
 use Rattle.text_lines.proofs.EndingLaws.{line-step, line-newline}
-use Rattle.text_chunks.specs.Chunks.{Reader, Progress, keepAll, longer, ended, step, stepText, fed, fedText, fedCount}
-use Rattle.text_chunks.specs.Parts.{within, Took}
+use Rattle.text_chunks.specs.Chunks.{Reader, Progress, longer, ended, step, stepText, fed, fedText, fedCount}
+use Rattle.text_chunks.specs.Internal.{keepAll, within, Took}
 use Rattle.text_chunks.proofs.ChunkLaws.{fed-append, text-append, fed-next, text-next}
 use Rattle.text_chunks.proofs.StepLaws.{step-end, text-end, step-keep, text-keep}
 use Rattle.text_chunks.proofs.CountLaws.{count-next, count-append, count-within}

@@ -13,7 +13,8 @@ use lib.Signed.{ltZ, nonNeg, natAbs-le}
 use mir.Syntax.{w32, w64}
 use mir.Val.{Fits, SFits, ofZ}
 use Rattle.text_chunks.specs.declared.Next.the-variants.{Read, Rest, End, Failed}
-use Rattle.text_chunks.specs.Reading.{given, afterFailure, afterPart, placeOf}
+use Rattle.text_chunks.specs.Reading.{given, afterFailure, afterPart}
+use Rattle.text_chunks.specs.Internal.{placeOf}
 
 -- what a failed read left as its error, which the code compares as a number of 32 bits
 pub failed-again : (error : ℤ) → ofZ w32 error ≡ 4 → SFits w32 error → Read ≡ afterFailure error

@@ -17,12 +17,6 @@ pub record Reader (S : Type 0) : Type 0 where
   -- a line is read only where so many places of the output are left
   pub room : ℕ
 
--- what the lines print, up to the one that ends the reading
-unfoldable pub told : {S : Type 0} → Reader S → S → List (List ℕ) → List ℕ
-told R s [] = R .final s
-told R s (line ∷ lines) =
-    R .text s (readLine line) ++ cond (R .ends s (readLine line)) (R .final (R .next s (readLine line))) (told R (R .next s (readLine line)) lines)
-
 -- what stands between two bytes: the state, what is kept of the line that has begun, and whether the reading has ended
 pub record Progress (S : Type 0) : Type 0 where
   pub state : S
@@ -36,11 +30,6 @@ begins s = record { state = s; part = []; over = false }
 -- one byte more of a line; a line of 17 bytes is malformed, whatever follows
 unfoldable pub keep : List ℕ → ℕ → List ℕ
 keep part b = cond (ltb (length part) 17) (part ++ (b ∷ [])) part
-
--- some bytes more
-unfoldable pub keepAll : List ℕ → List ℕ → List ℕ
-keepAll part [] = part
-keepAll part (b ∷ bytes) = keepAll (keep part b) bytes
 
 -- after a byte within a line
 unfoldable pub longer : {S : Type 0} → Progress S → ℕ → Progress S

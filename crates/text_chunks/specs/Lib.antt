@@ -1,3 +1,4 @@
+-- What a reader must believe, in reading order; Internal only serves the code.
 pub mod Chunks
-pub mod Parts
 pub mod Reading
+pub mod Internal

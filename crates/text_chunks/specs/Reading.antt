@@ -1,6 +1,6 @@
 -- What a read of a chunk gave, and what comes after it.
 use Prim.Native.Nat.{ℕ}
-use mathlib.Core.Bool.{Bool, true, false, cond}
+use mathlib.Core.Bool.{Bool, cond}
 use lib.Dec.{eqb}
 use lib.IntN.{ℤ, pos, negsuc}
 use Rattle.text_chunks.specs.declared.Next.{Next}
@@ -19,24 +19,3 @@ afterFailure (negsuc e) = Failed
 -- what comes after the bytes before this place of a chunk, by whether the reading has ended: the next read behind the chunk's end
 unfoldable pub afterPart : Bool → ℕ → ℕ → Next
 afterPart over place end = cond over End (cond (eqb place end) Read (Rest place))
-
--- the place of the chunk where it goes on
-unfoldable pub placeOf : Next → ℕ
-placeOf (Rest place) = place
-placeOf Read = 0
-placeOf End = 0
-placeOf Failed = 0
-
--- what is to hold where the rest of the chunk comes next
-unfoldable pub IfRest : Next → Type 0 → Type 0
-IfRest (Rest place) holds = holds
-IfRest Read holds = Unit
-IfRest End holds = Unit
-IfRest Failed holds = Unit
-
--- whether it goes on
-unfoldable pub goesOn : Next → Bool
-goesOn (Rest place) = true
-goesOn Read = true
-goesOn End = false
-goesOn Failed = false

@@ -3,7 +3,7 @@ use libc::EINTR;
 ghost use mathlib.Core.Path.{_≡_};
 ghost use Prim.Native.Nat.{_≤_};
 ghost use lib.ListN.{length, take};
-ghost use Rattle.text_chunks.specs.Chunks.{keepAll};
+ghost use Rattle.text_chunks.specs.Internal.{keepAll};
 ghost use Rattle.text_chunks.specs.Reading.{afterFailure, afterPart};
 
 // Keeps the bytes of a line, as far as there is room for them, and returns how many are kept then.

@@ -13,7 +13,7 @@ use Rattle.bytes.specs.Bytes.{indexOf, indexAfter, slice}
 use Rattle.code_theory.specs.Sum.{at}
 use Rattle.code_theory.proofs.QuestionLaws.{and-true}
 use Rattle.text_lines.specs.Line.{isDigit, isDigits, isSlot, isMiss}
-use Rattle.text_lines.specs.Ending.{lineLength, hasSlot, hasMiss}
+use Rattle.text_lines.specs.Internal.{lineLength, hasSlot, hasMiss}
 use Rattle.text_lines.proofs.LineLaws.{digit-at, slot-digits, miss-size}
 
 -- none before a newline, else one byte more

@@ -1,12 +1,10 @@
--- The lines of the input (document 01: the session list).
+-- The lines of the input (docs/REQUIREMENTS.md: the session list).
 use Prim.Native.Nat.{ℕ, _-_}
 use mathlib.Core.Bool.{Bool, true, _&&_, cond}
 use mathlib.Core.List.{List, [], _∷_, _++_, map}
 use lib.Dec.{eqb, leb}
 use lib.ListN.{length}
 use Rattle.code_theory.specs.Sum.{at}
-use Rattle.text_lines.specs.declared.Kind.{Kind}
-use Rattle.text_lines.specs.declared.Kind.the-variants as K
 
 -- the lines of an input that begins inside a line, of which part has been read: a newline ends a line, the last may lack it
 unfoldable pub linesFrom : List ℕ → List ℕ → List (List ℕ)
@@ -44,9 +42,3 @@ wordOf line = map (λ b. b - 48) line
 -- any other line, an empty one included, is malformed: bad
 unfoldable pub readLine : List ℕ → Line
 readLine line = cond (isSlot line) (slot (wordOf line)) (cond (isMiss line) miss bad)
-
--- the line of each case of the enum
-unfoldable pub lineOf : Kind → List ℕ → Line
-lineOf K.Slot line = slot (wordOf line)
-lineOf K.Miss line = miss
-lineOf K.Bad line = bad

@@ -2,8 +2,8 @@
 ghost use mathlib.Core.Path.{_≡_};
 ghost use mathlib.Core.Bool.{true};
 ghost use lib.ListN.{length};
-ghost use Rattle.text_lines.specs.Line.{isDigit, isDigits, isSlot, isMiss, wordOf, readLine, lineOf};
-ghost use Rattle.text_lines.specs.Ending.{lineLength, hasSlot, hasMiss};
+ghost use Rattle.text_lines.specs.Line.{isDigit, isDigits, isSlot, isMiss, wordOf, readLine};
+ghost use Rattle.text_lines.specs.Internal.{lineOf, lineLength, hasSlot, hasMiss};
 
 // What a line says.
 pub enum Kind {

@@ -1,4 +1,4 @@
-//! The document's examples of words written and read ("Words from the lake" and "The session list"), by its numbers.
+//! The worked examples of words written and read (docs/REQUIREMENTS.md: Worked examples, Session list), by its numbers.
 
 use crate::cases::Case;
 use crate::check::Report;

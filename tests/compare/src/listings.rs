@@ -13,7 +13,7 @@ use crate::session_model::SLOTS;
 
 const PROGRAM: &str = concat!(env!("CARGO_MANIFEST_DIR"), "/../../target/bin/session_list");
 
-/// The document's example: the input, and the output.
+/// The example of docs/REQUIREMENTS.md: the input, and the output.
 const EXAMPLE: (&[u8], &str) = (
     b"1201120130233023\n1211120130233021\n-\n3023302312011201\n0001000100010001\n120112013023302\n\
      2312231201300130\n3023302312011201\n",
@@ -89,7 +89,7 @@ impl Listings<'_> {
         report.cases += 1;
     }
 
-    /// The document's example and the stored run, which the second lister must list as they stand; inputs that are
+    /// That example and the stored run, which the second lister must list as they stand; inputs that are
     /// easily taken wrongly; lines around the size of any buffer.
     pub fn edges(&mut self, report: &mut Report) {
         for (input, output) in [EXAMPLE, STORED] {

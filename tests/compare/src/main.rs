@@ -56,7 +56,7 @@ fn main() -> ExitCode {
 
 fn words(report: &mut Report, random: &mut Random, model: &Model) {
     let mut codec = Codec::new(model);
-    println!("compare: the document's examples");
+    println!("compare: the worked examples");
     examples::run(&mut codec, report);
     println!("compare: every message of the codes with at most {}", model::FEW_MESSAGES);
     codec.every_message(report);

@@ -3,7 +3,7 @@ use mathlib.Core.Path.{_≡_, sym, _∙_}
 use native.Mathlib.Omega.{arith}
 use borrow.Author.Needs.{needs}
 use Rattle.codec.specs.Codec.{decoded}
-use Rattle.codec.specs.Asked.{wordRefusal}
+use Rattle.codec.specs.Internal.{wordRefusal}
 use Rattle.codec.proofs.Accepted.{readable}
 use Rattle.codec.proofs.ReadLaws.{decode-refused, decode-doubtful, decode-accepted}
 use Rattle.codec.proofs.decode.Statement.{statement}

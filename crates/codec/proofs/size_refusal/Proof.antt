@@ -5,7 +5,7 @@ use borrow.Author.Needs.{needs}
 use borrow.Author.Tests.{not-true, not-false}
 use Rattle.code_theory.specs.Question.{isAlphabet, isVariables}
 use Rattle.code_theory.proofs.QuestionLaws.{ask-on, ask-no, message-yes, message-no}
-use Rattle.codec.specs.Asked.{sizeRefusal}
+use Rattle.codec.specs.Internal.{sizeRefusal}
 use Rattle.codec.proofs.size_refusal.Statement.{statement}
 use Rattle.codec.proofs.size_refusal.Tie as tie
 

@@ -5,7 +5,7 @@ use borrow.Author.Needs.{needs}
 use borrow.Author.Tests.{not-true, not-false}
 use Rattle.code_theory.specs.Question.{isWordSize}
 use Rattle.code_theory.proofs.QuestionLaws.{ask-on, ask-no, word-yes, word-no, word-size}
-use Rattle.codec.specs.Asked.{sizeRefusal}
+use Rattle.codec.specs.Internal.{sizeRefusal}
 use Rattle.codec.proofs.Accepted.{sized, word-later, word-never}
 use Rattle.codec.proofs.word_refusal.Statement.{statement}
 use Rattle.codec.proofs.word_refusal.Tie as tie

@@ -4,7 +4,7 @@ use mathlib.Core.Path.{sym, _∙_, ap₂}
 use borrow.Author.Needs.{needs}
 use Rattle.code_theory.proofs.QuestionLaws.{after-yes, after-no}
 use Rattle.codec.proofs.Answers.{decode-read, decode-number}
-use Rattle.compare_codec.specs.Numbers.{decodeNumber}
+use Rattle.compare_codec.specs.Internal.{decodeNumber}
 use Rattle.compare_codec.proofs.compare_decode.Statement.{statement}
 use Rattle.compare_codec.proofs.compare_decode.Tie as tie
 

@@ -3,7 +3,7 @@ use mathlib.Core.Path.{sym, _∙_}
 use borrow.Author.Needs.{needs}
 use Rattle.code_theory.proofs.QuestionLaws.{after-yes, after-no}
 use Rattle.codec.proofs.Answers.{encode-written, encode-number}
-use Rattle.compare_codec.specs.Numbers.{encodeNumber}
+use Rattle.compare_codec.specs.Internal.{encodeNumber}
 use Rattle.compare_codec.proofs.compare_encode.Statement.{statement}
 use Rattle.compare_codec.proofs.compare_encode.Tie as tie
 

@@ -1,6 +1,6 @@
 -- `put_delivery` meets its contract.
 use mathlib.Core.Path.{ap, _∙_}
-use Rattle.compare_session.specs.Numbers.{four, withDelivery}
+use Rattle.compare_session.specs.Internal.{four, withDelivery}
 use borrow.Author.Needs.{needs}
 use Rattle.compare_session.proofs.put_delivery.Statement.{statement}
 use Rattle.compare_session.proofs.put_delivery.Tie as tie

@@ -1,6 +1,6 @@
 -- `put_receiver` meets its contract.
 use mathlib.Core.Path.{ap, _∙_}
-use Rattle.compare_session.specs.Numbers.{four, withReceiver}
+use Rattle.compare_session.specs.Internal.{four, withReceiver}
 use borrow.Author.Needs.{needs}
 use Rattle.compare_session.proofs.put_receiver.Statement.{statement}
 use Rattle.compare_session.proofs.put_receiver.Tie as tie

@@ -1,5 +1,5 @@
 -- `put_sender` meets its contract.
-use Rattle.compare_session.specs.Numbers.{withSender}
+use Rattle.compare_session.specs.Internal.{withSender}
 use borrow.Author.Needs.{needs}
 use Rattle.compare_session.proofs.put_sender.Statement.{statement}
 use Rattle.compare_session.proofs.put_sender.Tie as tie

@@ -1,7 +1,7 @@
 -- `receiver_of` meets its contract.
 use mathlib.Core.Path.{ap}
 use Rattle.code_theory.specs.Sum.{at}
-use Rattle.compare_session.specs.Numbers.{receiverIn}
+use Rattle.compare_session.specs.Internal.{receiverIn}
 use borrow.Author.Needs.{needs}
 use Rattle.compare_session.proofs.receiver_of.Statement.{statement}
 use Rattle.compare_session.proofs.receiver_of.Tie as tie

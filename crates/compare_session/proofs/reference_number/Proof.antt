@@ -1,6 +1,6 @@
 -- `reference_number` meets its contract, case by case.
 use mathlib.Core.Path.{ap, sym}
-use Rattle.compare_session.specs.Numbers.{referenceNumber}
+use Rattle.compare_session.specs.Internal.{referenceNumber}
 use borrow.Author.Needs.{needs}
 use Rattle.compare_session.proofs.reference_number.Statement.{statement}
 use Rattle.compare_session.proofs.reference_number.Tie as tie

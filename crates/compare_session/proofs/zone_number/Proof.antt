@@ -1,6 +1,6 @@
 -- `zone_number` meets its contract, case by case.
 use mathlib.Core.Path.{ap, sym}
-use Rattle.compare_session.specs.Numbers.{zoneNumber}
+use Rattle.compare_session.specs.Internal.{zoneNumber}
 use borrow.Author.Needs.{needs}
 use Rattle.compare_session.proofs.zone_number.Statement.{statement}
 use Rattle.compare_session.proofs.zone_number.Tie as tie

@@ -1,7 +1,7 @@
 -- `compare_soft_read` meets its contract, case by case.
 use mathlib.Core.Path.{ap, sym, _∙_}
 use Rattle.soft.specs.Answers.{softAnswered}
-use Rattle.compare_soft.specs.Numbers.{readNumber}
+use Rattle.compare_soft.specs.Internal.{readNumber}
 use borrow.Author.Needs.{needs}
 use Rattle.compare_soft.proofs.compare_soft_read.Statement.{statement}
 use Rattle.compare_soft.proofs.compare_soft_read.Tie as tie

@@ -1,7 +1,7 @@
 -- `compare_soft_vote` meets its contract, case by case.
 use mathlib.Core.Path.{ap, sym, _∙_}
 use Rattle.soft_decision.specs.Voted.{voted}
-use Rattle.compare_soft.specs.Numbers.{voteNumber, voteSums}
+use Rattle.compare_soft.specs.Internal.{voteNumber, voteSums}
 use borrow.Author.Needs.{needs}
 use Rattle.compare_soft.proofs.compare_soft_vote.Statement.{statement}
 use Rattle.compare_soft.proofs.compare_soft_vote.Tie as tie

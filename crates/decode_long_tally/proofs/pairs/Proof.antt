@@ -1,7 +1,7 @@
 -- `pairs` meets its contract. The loop's invariant: the rows below b are filled.
 use Prim.Native.Nat.{_≤_, _-_}
 use native.Mathlib.Omega.{arith}
-use Rattle.decode_long_tally.specs.Pairs.{Pairs}
+use Rattle.decode_long_tally.specs.Internal.{Pairs}
 use Rattle.decode_long_tally.proofs.PairLaws.{rows-none, rows-next, rows-all}
 use borrow.Author.Needs.{needs}
 use Rattle.decode_long_tally.proofs.pairs.Statement.{statement}

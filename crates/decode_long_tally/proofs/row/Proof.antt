@@ -1,7 +1,7 @@
 -- `row` meets its contract. The loop's invariant: the first a entries are filled.
 use Prim.Native.Nat.{_≤_, _-_}
 use native.Mathlib.Omega.{arith}
-use Rattle.decode_long_tally.specs.Pairs.{Row}
+use Rattle.decode_long_tally.specs.Internal.{Row}
 use Rattle.decode_long_tally.proofs.PairLaws.{row-none, row-next, row-all}
 use Rattle.decode_long_tally.proofs.TallyLaws.{unit-le}
 use borrow.Author.Needs.{needs}

@@ -5,7 +5,7 @@ use mathlib.Core.Path.{_≡_}
 use native.Mathlib.Omega.{arith}
 use borrow.Author.Needs.{needs}
 use Rattle.code_theory.proofs.QuestionLaws.{alphabet, alphabet-bounds}
-use Rattle.decode_long_winner.specs.Winner.{Leads, together}
+use Rattle.decode_long_winner.specs.Internal.{Leads, together}
 use Rattle.decode_long_winner.proofs.CounterLaws.{digit-first, digit-start, digit-next, digit-shift}
 use Rattle.decode_long_winner.proofs.WinnerLaws.{leads-first, leads-next, leads-all, together-is}
 use Rattle.decode_long_winner.proofs.winner_of.Statement.{statement}

@@ -2,7 +2,7 @@
 use native.Mathlib.Omega.{arith}
 use mathlib.Core.Path.{refl}
 use borrow.Author.Needs.{needs}
-use Rattle.decode_short_candidate.specs.Candidate.{message}
+use Rattle.decode_short_candidate.specs.Internal.{message}
 use Rattle.decode_short.proofs.SettleLaws.{front-all, symbols-eight, doubtful, clear, damaged, bad-votes}
 use Rattle.decode_short.proofs.read_32.Statement.{statement}
 use Rattle.decode_short.proofs.read_32.Tie as tie

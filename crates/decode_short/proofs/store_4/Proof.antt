@@ -1,6 +1,6 @@
 -- `store_4` meets its contract: a shorter message, and one symbol more.
 use mathlib.Core.Path.{refl}
-use Rattle.decode_short_candidate.specs.Candidate.{message}
+use Rattle.decode_short_candidate.specs.Internal.{message}
 use Rattle.decode_short.proofs.SettleLaws.{stored-next}
 use borrow.Author.Needs.{needs}
 use Rattle.decode_short.proofs.store_4.Statement.{statement}

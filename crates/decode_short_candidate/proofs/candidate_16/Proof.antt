@@ -1,7 +1,7 @@
 -- `candidate_16` meets its contract.
 use mathlib.Core.Path.{refl}
 use borrow.Author.Needs.{needs}
-use Rattle.swar_lanes.specs.Ballot.{laneBit}
+use Rattle.swar_lanes.specs.Internal.{laneBit}
 use Rattle.decode_short_candidate.proofs.CandidateLaws.{candidate-16}
 use Rattle.decode_short_candidate.proofs.candidate_16.Statement.{statement}
 use Rattle.decode_short_candidate.proofs.candidate_16.Tie as tie

@@ -2,8 +2,8 @@
 use mathlib.Core.Path.{ap}
 use native.Mathlib.Omega.{arith}
 use borrow.Author.Needs.{needs}
-use Rattle.swar_lanes.specs.Ballot.{laneBit}
-use Rattle.swar_majority.specs.Most.{fifteenOf}
+use Rattle.swar_lanes.specs.Internal.{laneBit}
+use Rattle.swar_majority.specs.Internal.{fifteenOf}
 use Rattle.decode_short_candidate.proofs.ChoiceLaws.{chosen-by}
 use Rattle.decode_short_candidate.proofs.CandidateLaws.{candidate-32}
 use Rattle.decode_short_candidate.proofs.candidate_32.Statement.{statement}

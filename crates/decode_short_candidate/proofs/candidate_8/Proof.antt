@@ -1,7 +1,7 @@
 -- `candidate_8` meets its contract.
 use mathlib.Core.Path.{refl}
 use borrow.Author.Needs.{needs}
-use Rattle.swar_lanes.specs.Ballot.{laneBit}
+use Rattle.swar_lanes.specs.Internal.{laneBit}
 use Rattle.decode_short_candidate.proofs.CandidateLaws.{candidate-8}
 use Rattle.decode_short_candidate.proofs.candidate_8.Statement.{statement}
 use Rattle.decode_short_candidate.proofs.candidate_8.Tie as tie

@@ -1,5 +1,5 @@
 -- `fifteen` meets its contract.
-use Rattle.swar_majority.specs.Most.{fifteenOf}
+use Rattle.swar_majority.specs.Internal.{fifteenOf}
 use Rattle.decode_short_candidate.proofs.ChoiceLaws.{chosen-most, lanes-same, chosen-by, lanes-fit}
 use borrow.Author.Needs.{needs}
 use Rattle.decode_short_candidate.proofs.fifteen.Statement.{statement}

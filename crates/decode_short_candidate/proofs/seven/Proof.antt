@@ -1,5 +1,5 @@
 -- `seven` meets its contract.
-use Rattle.swar_majority.specs.Most.{sevenOf}
+use Rattle.swar_majority.specs.Internal.{sevenOf}
 use Rattle.decode_short_candidate.proofs.ChoiceLaws.{chosen-most, lanes-same, chosen-by, lanes-fit}
 use borrow.Author.Needs.{needs}
 use Rattle.decode_short_candidate.proofs.seven.Statement.{statement}

@@ -1,6 +1,6 @@
 -- `three` meets its contract.
 use mathlib.Core.Path.{ap₂}
-use Rattle.swar_majority.specs.Most.{threeOf}
+use Rattle.swar_majority.specs.Internal.{threeOf}
 use Rattle.decode_short_candidate.proofs.ChoiceLaws.{chosen-most, chosen-by}
 use borrow.Author.Needs.{needs}
 use Rattle.decode_short_candidate.proofs.three.Statement.{statement}

@@ -1,7 +1,7 @@
 -- `code` meets its contract: one coefficient after the other, each where its bit of the place is 1.
 use mathlib.Core.Path.{refl}
 use Rattle.code_theory.specs.Sum.{every}
-use Rattle.swar_theory.specs.Digit.{digit}
+use Rattle.swar_theory.specs.Internal.{digit}
 use Rattle.swar_lanes.proofs.LaneLaws.{none-below}
 use Rattle.decode_short_errors.proofs.PlaceLaws.{plus-below, mask-is, code-is}
 use Rattle.decode_short_errors.proofs.code.Statement.{statement}

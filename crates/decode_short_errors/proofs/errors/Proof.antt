@@ -3,7 +3,7 @@ use mathlib.Core.Path.{refl}
 use native.Mathlib.Omega.{arith}
 use Rattle.code_theory.specs.Sum.{every}
 use Rattle.code_theory.proofs.WordLaws.{bounds}
-use Rattle.swar_theory.specs.Digit.{digit}
+use Rattle.swar_theory.specs.Internal.{digit}
 use borrow.Author.Needs.{needs}
 use Rattle.swar_lanes.proofs.LaneLaws.{less-below}
 use Rattle.decode_short_errors.proofs.PlaceLaws.{part-below, mask-is, errors-are}

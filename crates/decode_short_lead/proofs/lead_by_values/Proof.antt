@@ -3,8 +3,8 @@ use Prim.Native.Nat.{_≤_, _-_}
 use mathlib.Core.Path.{_≡_, refl}
 use native.Mathlib.Omega.{arith}
 use borrow.Author.Needs.{needs}
-use Rattle.code_theory.proofs.ErrorLaws.{sumFrom1, maxFrom1}
-use Rattle.decode_short_lead.specs.Lead.{lanesEqual}
+use Rattle.code_theory.specs.Internal.{sumFrom1, maxFrom1}
+use Rattle.decode_short_lead.specs.Internal.{lanesEqual}
 use Rattle.decode_short_lead.proofs.LeadLaws.{sum-within, step-sum, step-max, step-fits, last-fits, last-is}
 use Rattle.decode_short_lead.proofs.lead_by_values.Statement.{statement}
 use Rattle.decode_short_lead.proofs.lead_by_values.Tie as tie

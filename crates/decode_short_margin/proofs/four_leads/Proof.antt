@@ -1,6 +1,6 @@
 -- `four_leads` meets its contract: the least lead, one coefficient after the other.
 use borrow.Author.Needs.{needs}
-use Rattle.decode_short_margin.specs.Margins.{bothVotes, leadBy}
+use Rattle.decode_short_margin.specs.Internal.{bothVotes, leadBy}
 use Rattle.decode_short_margin.proofs.LeastLaws.{least-four}
 use Rattle.decode_short_margin.proofs.four_leads.Statement.{statement}
 use Rattle.decode_short_margin.proofs.four_leads.Tie as tie

@@ -2,7 +2,7 @@
 use native.Mathlib.Omega.{arith}
 use borrow.Author.Needs.{needs}
 use Rattle.swar_lanes.proofs.LoadLaws.{word-low}
-use Rattle.decode_short_candidate.specs.Candidate.{messageOf, OnlyCandidate}
+use Rattle.decode_short_candidate.specs.Internal.{messageOf, OnlyCandidate}
 use Rattle.decode_short_verify.proofs.VerifyLaws.{held-below, below-eight, symbols-below, left-asks, verifies-both}
 use Rattle.decode_short_verify.proofs.verify_32.Statement.{statement}
 use Rattle.decode_short_verify.proofs.verify_32.Tie as tie

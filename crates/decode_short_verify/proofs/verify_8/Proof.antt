@@ -2,7 +2,7 @@
 use native.Mathlib.Omega.{arith}
 use mathlib.Core.Path.{refl}
 use Rattle.code_theory.specs.Sum.{sum, every}
-use Rattle.swar_theory.specs.Digit.{digit}
+use Rattle.swar_theory.specs.Internal.{digit}
 use Rattle.swar_lanes.proofs.LoadLaws.{word-low}
 use Rattle.decode_short_verify.proofs.VerifyLaws.{right-asks, right-le, held-below, left-asks, verifies-one, wrong-8}
 use Rattle.decode_short_verify.proofs.verify_8.Statement.{statement}

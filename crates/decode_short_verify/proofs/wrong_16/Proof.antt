@@ -2,7 +2,7 @@
 use native.Mathlib.Omega.{arith}
 use mathlib.Core.Path.{refl}
 use Rattle.code_theory.specs.Sum.{sum, every}
-use Rattle.swar_theory.specs.Digit.{digit}
+use Rattle.swar_theory.specs.Internal.{digit}
 use Rattle.decode_short_verify.proofs.VerifyLaws.{marked, right-le, wrong-16}
 use Rattle.decode_short_verify.proofs.wrong_16.Statement.{statement}
 use Rattle.decode_short_verify.proofs.wrong_16.Tie as tie

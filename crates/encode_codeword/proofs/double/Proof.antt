@@ -2,7 +2,7 @@
 use Prim.Native.Nat.{_+_, _*_, _%_, _≤_, _-_}
 use mathlib.Core.Path.{_∙_, ap}
 use native.Mathlib.Omega.{arith}
-use Rattle.encode_codeword.specs.Coded.{Doubled}
+use Rattle.encode_codeword.specs.Internal.{Doubled}
 use Rattle.encode_codeword.proofs.Doubling.{doubled-none, doubled-eight, doubled-all}
 use borrow.Author.Needs.{needs}
 use Rattle.encode_codeword.proofs.double.Statement.{statement}

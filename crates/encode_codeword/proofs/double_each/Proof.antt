@@ -2,7 +2,7 @@
 use Prim.Native.Nat.{_≤_, _-_}
 use native.Mathlib.Omega.{arith}
 use Rattle.code_theory.proofs.QuestionLaws.{alphabet, alphabet-bounds}
-use Rattle.encode_codeword.specs.Coded.{Doubled}
+use Rattle.encode_codeword.specs.Internal.{Doubled}
 use Rattle.encode_codeword.proofs.Doubling.{doubled-none, doubled-next, doubled-all}
 use borrow.Author.Needs.{needs}
 use Rattle.encode_codeword.proofs.double_each.Statement.{statement}

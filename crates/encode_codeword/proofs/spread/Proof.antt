@@ -2,7 +2,7 @@
 use mathlib.Core.Path.{subst, sym}
 use native.Mathlib.Omega.{arith}
 use Prim.Native.Nat.{_*_}
-use Rattle.swar_bytes.specs.Chunk.{Holds}
+use Rattle.swar_bytes.specs.Internal.{Holds}
 use Rattle.swar_bytes.proofs.Parts.{same-eight}
 use borrow.Author.Needs.{needs}
 use Rattle.encode_codeword.proofs.spread.Statement.{statement}

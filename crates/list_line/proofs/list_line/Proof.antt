@@ -1,6 +1,6 @@
 -- `list_line` meets its contract, by the kinds of a line.
 use mathlib.Core.Path.{sym, ap, _∙_}
-use Rattle.text_lines.specs.Line.{lineOf}
+use Rattle.text_lines.specs.Internal.{lineOf}
 use Rattle.text_lines.proofs.LineLaws.{slot-reads}
 use Rattle.list_line.proofs.SlotLaws.{relisted, listed-as, told-bad}
 use borrow.Author.Needs.{needs}

@@ -3,7 +3,7 @@ use Prim.Native.Nat.{_≤_}
 use native.Mathlib.Omega.{arith}
 use borrow.Author.Needs.{needs}
 use lib.ListN.{length}
-use Rattle.text_buffer.specs.Text.{field}
+use Rattle.text_buffer.specs.Internal.{field}
 use Rattle.text_buffer.proofs.PutLaws.{written-as}
 use Rattle.list_line.proofs.TextLaws.{field-length, reading-pieces, written-five}
 use Rattle.list_line.proofs.put_reading.Statement.{statement}

@@ -3,7 +3,8 @@ use mathlib.Core.Path.{sym, ap}
 use mathlib.Core.List.{[], _∷_, _++_}
 use native.Mathlib.Omega.{arith}
 use borrow.Author.Needs.{needs}
-use Rattle.text_buffer.specs.Text.{bytes, field}
+use Rattle.text_buffer.specs.Text.{bytes}
+use Rattle.text_buffer.specs.Internal.{field}
 use Rattle.text_buffer.proofs.PutLaws.{written-as}
 use Rattle.list_line.specs.Listing.{zoneText}
 use Rattle.list_line.proofs.TextLaws.{field-length}

@@ -5,7 +5,7 @@ use lib.ListN.{take}
 use lib.Seq.{length-take-le}
 use Rattle.text_lines.specs.Line.{miss, readLine}
 use Rattle.text_lines.proofs.EndingLaws.{line-within, miss-ends}
-use Rattle.text_chunks.specs.Chunks.{keepAll}
+use Rattle.text_chunks.specs.Internal.{keepAll}
 use Rattle.text_chunks.proofs.LineLaws.{miss-line}
 use Rattle.list_stream.proofs.StreamLaws.{line-fit, reads-line, reads-part}
 use borrow.Author.Needs.{needs}

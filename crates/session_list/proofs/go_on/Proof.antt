@@ -2,7 +2,7 @@
 use mathlib.Core.Path.{refl, ap, sym, _∙_}
 use native.Mathlib.Omega.{arith}
 use mir.Facts.{toZ-ofZ}
-use Rattle.text_chunks.specs.Reading.{placeOf, goesOn}
+use Rattle.text_chunks.specs.Internal.{placeOf, goesOn}
 use Rattle.session_list.proofs.ReadLaws.{back-room, back-place, if-rest, if-read, if-end, if-failed}
 use borrow.Author.Needs.{needs}
 use Rattle.session_list.proofs.go_on.Statement.{statement}

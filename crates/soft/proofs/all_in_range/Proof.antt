@@ -4,7 +4,7 @@ use mathlib.Core.Path.{_≡_, refl}
 use mathlib.Core.Bool.{_&&_}
 use native.Mathlib.Omega.{arith}
 use lib.ListN.{length}
-use Rattle.soft.specs.Work.{rangeTo}
+use Rattle.soft.specs.Internal.{rangeTo}
 use Rattle.soft.proofs.Range.{range-start, range-next, range-both}
 use borrow.Author.Needs.{needs}
 use Rattle.soft.proofs.all_in_range.Statement.{statement}

@@ -3,7 +3,7 @@ use Prim.Native.Nat.{_+_}
 use mathlib.Core.Path.{ap, _∙_}
 use native.Mathlib.Omega.{arith}
 use borrow.Author.Needs.{needs}
-use Rattle.soft.specs.Work.{rangeTo}
+use Rattle.soft.specs.Internal.{rangeTo}
 use Rattle.soft.proofs.Range.{range-more}
 use Rattle.soft.proofs.eight_in_range.Statement.{statement}
 use Rattle.soft.proofs.eight_in_range.Tie as tie

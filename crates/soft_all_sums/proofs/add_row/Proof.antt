@@ -4,8 +4,9 @@ use mathlib.Core.Path.{_≡_, ap, ap₂, _∙_}
 use native.Mathlib.Omega.{arith}
 use Rattle.soft_theory.specs.Numbers.{f32}
 use Rattle.soft_theory.specs.Complex.{sample}
-use Rattle.soft_theory.proofs.SumsLaws.{votesTo}
-use Rattle.soft_vote_sums.specs.Pair.{pair, complex}
+use Rattle.soft_theory.specs.Internal.{votesTo}
+use Rattle.soft_vote_sums.specs.Pair.{pair}
+use Rattle.soft_vote_sums.specs.Internal.{complex}
 use Rattle.soft_all_sums.proofs.RowLaws.{row-next}
 use borrow.Author.Needs.{needs}
 use Rattle.soft_all_sums.proofs.add_row.Statement.{statement}

@@ -4,7 +4,7 @@ use mathlib.Core.Path.{_≡_, refl}
 use mathlib.Core.List.{[], _∷_}
 use native.Mathlib.Omega.{arith}
 use Rattle.soft_vote_sums.specs.Pair.{pair}
-use Rattle.soft_all_sums.specs.Work.{nones, votesOf}
+use Rattle.soft_all_sums.specs.Internal.{nones, votesOf}
 use Rattle.soft_vote_sums.proofs.Steps.{votes-none}
 use Rattle.soft_all_sums.proofs.RowLaws.{votes-done, front-all}
 use Rattle.soft_all_sums.proofs.eight_sums.Statement.{statement}

@@ -4,7 +4,7 @@ use Prim.Native.Nat.{_+_, _*_, _-_, _≤_}
 use mathlib.Core.Path.{_≡_, sym, _∙_}
 use native.Mathlib.Omega.{arith}
 use lib.ListN.{length}
-use Rattle.soft_all_sums.specs.Work.{votesOf, Stored, SumsTo}
+use Rattle.soft_all_sums.specs.Internal.{votesOf, Stored, SumsTo}
 use Rattle.soft_all_sums.proofs.RowLaws.{stored-none, stored-next, sums-more, sums-blocks, held-is}
 use borrow.Author.Needs.{needs}
 use Rattle.soft_all_sums.proofs.high_sums.Statement.{statement}

@@ -1,7 +1,7 @@
 -- `low_sums` meets its contract. The loop's invariant: the sums below k are stored.
 use Prim.Native.Nat.{_-_, _≤_}
 use native.Mathlib.Omega.{arith}
-use Rattle.soft_all_sums.specs.Work.{sumsOf, Stored}
+use Rattle.soft_all_sums.specs.Internal.{sumsOf, Stored}
 use Rattle.soft_all_sums.proofs.RowLaws.{stored-none, stored-next, stored-all}
 use borrow.Author.Needs.{needs}
 use Rattle.soft_all_sums.proofs.low_sums.Statement.{statement}

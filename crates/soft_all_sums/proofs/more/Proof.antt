@@ -1,7 +1,7 @@
 -- `more` meets its contract: the sums plus one vote.
 use native.Mathlib.Omega.{arith}
 use lib.Pow.{pow-mono}
-use Rattle.soft_all_sums.specs.Work.{votesOf}
+use Rattle.soft_all_sums.specs.Internal.{votesOf}
 use Rattle.soft_vote_sums.proofs.Steps.{vote-next}
 use borrow.Author.Needs.{needs}
 use Rattle.soft_all_sums.proofs.more.Statement.{statement}

@@ -1,5 +1,5 @@
 -- `no_sums` meets its contract: eight zeros.
-use Rattle.soft_all_sums.specs.Work.{nones}
+use Rattle.soft_all_sums.specs.Internal.{nones}
 use mathlib.Core.Path.{refl}
 use Rattle.soft_all_sums.proofs.no_sums.Statement.{statement}
 use Rattle.soft_all_sums.proofs.no_sums.Tie as tie

@@ -4,7 +4,7 @@ use mathlib.Core.Path.{ap, sym, _∙_}
 use native.Mathlib.Omega.{arith}
 use lib.ListN.{length-set}
 use Rattle.soft_vote_sums.specs.Pair.{pair}
-use Rattle.soft_all_sums.specs.Work.{Put}
+use Rattle.soft_all_sums.specs.Internal.{Put}
 use Rattle.soft_vote_sums.proofs.Steps.{nth-small}
 use Rattle.soft_all_sums.proofs.RowLaws.{block-room, near, put-none, put-next, put-all}
 use borrow.Author.Needs.{needs}

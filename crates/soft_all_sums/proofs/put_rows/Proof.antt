@@ -2,7 +2,7 @@
 use Prim.Native.Nat.{_-_, _≤_}
 use mathlib.Core.Path.{sym, _∙_}
 use native.Mathlib.Omega.{arith}
-use Rattle.soft_all_sums.specs.Work.{Rows}
+use Rattle.soft_all_sums.specs.Internal.{Rows}
 use Rattle.soft_all_sums.proofs.RowLaws.{rows-none, rows-next, rows-all}
 use borrow.Author.Needs.{needs}
 use Rattle.soft_all_sums.proofs.put_rows.Statement.{statement}

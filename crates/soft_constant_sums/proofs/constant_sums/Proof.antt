@@ -8,7 +8,7 @@ use Rattle.soft_theory.specs.Numbers.{f32}
 use Rattle.soft_theory.specs.Complex.{sample}
 use Rattle.soft_theory.proofs.SumsLaws.{backTo}
 use Rattle.soft_vote_sums.specs.Pair.{pair}
-use Rattle.soft_constant_sums.specs.Work.{coefficientsIn}
+use Rattle.soft_constant_sums.specs.Internal.{coefficientsIn}
 use Rattle.soft_vote_sums.proofs.Steps.{even-samples}
 use Rattle.soft_constant_sums.proofs.TurnLaws.{turn-room, back-none, back-more, back-end}
 use borrow.Author.Needs.{needs}

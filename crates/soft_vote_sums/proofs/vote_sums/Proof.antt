@@ -6,7 +6,7 @@ use lib.ListN.{length}
 use lib.Pow.{pow-mono}
 use Rattle.soft_theory.specs.Numbers.{f32}
 use Rattle.soft_theory.specs.Complex.{sample}
-use Rattle.soft_theory.proofs.SumsLaws.{votesTo}
+use Rattle.soft_theory.specs.Internal.{votesTo}
 use Rattle.soft_vote_sums.specs.Pair.{pair}
 use Rattle.soft_vote_sums.proofs.Steps.{few-votes, step-room, onward-rooms, onward-vote, votes-none, votes-next, votes-end}
 use borrow.Author.Needs.{needs}

@@ -3,7 +3,7 @@ use mathlib.Core.Path.{refl}
 use native.Mathlib.Omega.{arith}
 use Rattle.code_theory.specs.Sum.{every}
 use Rattle.code_theory.specs.Index.{bit}
-use Rattle.swar_theory.specs.Digit.{digit}
+use Rattle.swar_theory.specs.Internal.{digit}
 use Rattle.swar_lanes.proofs.LaneLaws.{clear-at}
 use Rattle.swar_lanes.proofs.clear.Statement.{statement}
 use Rattle.swar_lanes.proofs.clear.Tie as tie

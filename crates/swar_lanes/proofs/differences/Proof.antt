@@ -1,7 +1,7 @@
 -- `differences` meets its contract.
 use mathlib.Core.Path.{ap₂, _∙_}
 use Rattle.code_theory.specs.Modular.{subMod}
-use Rattle.swar_theory.specs.Digit.{digit}
+use Rattle.swar_theory.specs.Internal.{digit}
 use Rattle.swar_lanes.proofs.BallotLaws.{number-below}
 use borrow.Author.Needs.{needs}
 use Rattle.swar_lanes.proofs.differences.Statement.{statement}

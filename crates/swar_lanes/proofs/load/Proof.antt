@@ -3,7 +3,7 @@ use Prim.Native.Nat.{_≤_, _-_}
 use mathlib.Core.Path.{_≡_}
 use native.Mathlib.Omega.{arith}
 use lib.ListN.{length}
-use Rattle.swar_lanes.specs.Lane.{Loaded}
+use Rattle.swar_lanes.specs.Internal.{Loaded}
 use Rattle.swar_lanes.proofs.LoadLaws.{loaded-none, loaded-next, loaded-all}
 use borrow.Author.Needs.{needs}
 use Rattle.swar_lanes.proofs.load.Statement.{statement}

@@ -1,7 +1,7 @@
 -- `sixteen` meets its contract.
 use Prim.Native.Nat.{ℕ, _*_, _<_}
 use native.Mathlib.Omega.{arith}
-use Rattle.swar_theory.specs.Digit.{digit}
+use Rattle.swar_theory.specs.Internal.{digit}
 use Rattle.swar_lanes.proofs.LoadLaws.{low-bytes, low-le, sixteen-held}
 use borrow.Author.Needs.{needs}
 use Rattle.swar_lanes.proofs.sixteen.Statement.{statement}

@@ -1,6 +1,6 @@
 -- `put_field` meets its contract: the byte is stored behind the digits.
 use native.Mathlib.Omega.{arith}
-use Rattle.text_buffer.specs.Text.{field}
+use Rattle.text_buffer.specs.Internal.{field}
 use Rattle.text_buffer.proofs.DecimalLaws.{length-field}
 use Rattle.text_buffer.proofs.PutLaws.{written-byte}
 use borrow.Author.Needs.{needs}

@@ -3,7 +3,7 @@ use Prim.Native.Nat.{_≤_, _<_, _-_}
 use mathlib.Core.Path.{_≡_, refl, sym, _∙_}
 use native.Mathlib.Omega.{arith}
 use lib.ListN.{length, take, drop, length-set}
-use Rattle.text_chunks.specs.Chunks.{keepAll}
+use Rattle.text_chunks.specs.Internal.{keepAll}
 use Rattle.text_chunks.proofs.KeepLaws.{keeps-next, keeps-done, keeps-all}
 use borrow.Author.Needs.{needs}
 use Rattle.text_chunks.proofs.keep_part.Statement.{statement}

@@ -3,7 +3,7 @@ use mathlib.Core.Path.{sym}
 use native.Mathlib.Omega.{arith}
 use borrow.Author.Tests.{lt-ltb, le-ltb}
 use lib.Seq.{length-take-le}
-use Rattle.text_lines.specs.Ending.{hasMiss}
+use Rattle.text_lines.specs.Internal.{hasMiss}
 use borrow.Author.Needs.{needs}
 use Rattle.text_lines.proofs.has_miss.Statement.{statement}
 use Rattle.text_lines.proofs.has_miss.Tie as tie

@@ -3,7 +3,7 @@ use mathlib.Core.Path.{sym}
 use native.Mathlib.Omega.{arith}
 use borrow.Author.Tests.{lt-ltb, le-ltb, eq-eqb, ne-eqb}
 use lib.Seq.{length-take-le}
-use Rattle.text_lines.specs.Ending.{hasSlot}
+use Rattle.text_lines.specs.Internal.{hasSlot}
 use borrow.Author.Needs.{needs}
 use Rattle.text_lines.proofs.has_slot.Statement.{statement}
 use Rattle.text_lines.proofs.has_slot.Tie as tie

@@ -1,6 +1,6 @@
 -- `kind_of` meets its contract, by the tests that led to each answer.
 use mathlib.Core.Path.{sym, _∙_}
-use Rattle.text_lines.specs.Line.{lineOf}
+use Rattle.text_lines.specs.Internal.{lineOf}
 use Rattle.text_lines.proofs.LineLaws.{reads-slot, reads-miss, reads-bad}
 use borrow.Author.Needs.{needs}
 use Rattle.text_lines.proofs.kind_of.Statement.{statement}

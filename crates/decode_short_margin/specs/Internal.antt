@@ -5,9 +5,9 @@ use mathlib.Core.Bool.{true, cond}
 use lib.Dec.{ltb}
 use Rattle.code_theory.specs.Vote.{votes}
 use Rattle.code_theory.specs.Question.{isAlphabet}
-use Rattle.code_theory.proofs.ErrorLaws.{sumFrom1, maxFrom1}
-use Rattle.swar_theory.specs.Digit.{digit}
-use Rattle.swar_lanes.specs.Lane.{laneOf, Below}
+use Rattle.code_theory.specs.Internal.{sumFrom1, maxFrom1}
+use Rattle.swar_theory.specs.Internal.{digit}
+use Rattle.swar_lanes.specs.Internal.{laneOf, Below}
 
 -- place i of the sixteen that f holds
 unfoldable pub placeOf : ℕ → ℕ → ℕ

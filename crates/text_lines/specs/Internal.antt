@@ -1,4 +1,4 @@
--- Where a line ends, and which line stands at the front of some bytes, as the code finds it. The output does not rest on it.
+-- What the code finds in a line, and where a line ends. The output does not rest on it.
 use Prim.Native.Nat.{ℕ}
 use mathlib.Core.Bool.{Bool, _&&_}
 use mathlib.Core.List.{List}
@@ -6,7 +6,15 @@ use lib.Dec.{eqb, ltb}
 use lib.ListN.{length, take}
 use Rattle.bytes.specs.Bytes.{indexOf}
 use Rattle.code_theory.specs.Sum.{at}
-use Rattle.text_lines.specs.Line.{isSlot, isMiss}
+use Rattle.text_lines.specs.declared.Kind.{Kind}
+use Rattle.text_lines.specs.declared.Kind.the-variants as K
+use Rattle.text_lines.specs.Line.{isSlot, isMiss, Line, slot, miss, bad, wordOf}
+
+-- the line of each case of the enum
+unfoldable pub lineOf : Kind → List ℕ → Line
+lineOf K.Slot line = slot (wordOf line)
+lineOf K.Miss line = miss
+lineOf K.Bad line = bad
 
 -- how many bytes stand before the first newline: all where there is none
 unfoldable pub lineLength : List ℕ → ℕ

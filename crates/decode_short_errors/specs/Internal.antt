@@ -3,7 +3,7 @@ use Prim.Native.Nat.{ℕ, _+_, _*_, _%_}
 use Rattle.code_theory.specs.Sum.{sum}
 use Rattle.code_theory.specs.Index.{bit}
 use Rattle.code_theory.specs.Modular.{same}
-use Rattle.swar_theory.specs.Digit.{digit}
+use Rattle.swar_theory.specs.Internal.{digit}
 
 -- symbol i of the word of the coefficients c0 to c3, with the constant 0
 unfoldable pub plain : ℕ → ℕ → ℕ → ℕ → ℕ → ℕ → ℕ

@@ -7,11 +7,13 @@ use Rattle.code_theory.specs.Sum.{at}
 use mathlib.Core.Bool.{true}
 use Rattle.code_theory.specs.Question.{isAlphabet}
 use Rattle.code_theory.specs.Near as near
-use Rattle.code_theory.specs.Vote.{count, votes, Winners}
+use Rattle.code_theory.specs.Vote.{count, votes}
+use Rattle.code_theory.specs.Internal.{Winners}
 use Rattle.code_theory.specs.Margin as lead
-use Rattle.decode_long_tally.specs.Counters.{difference, Tallied}
-use Rattle.swar_lanes.specs.Lane.{Packed}
-use Rattle.decode_long_winner.specs.Winner.{Leads}
+use Rattle.code_theory.specs.Code.{Below}
+use Rattle.decode_long_tally.specs.Internal.{difference, Tallied}
+use Rattle.swar_lanes.specs.Internal.{Packed}
+use Rattle.decode_long_winner.specs.Internal.{Leads}
 
 -- the least of b and of f 0 to f (n - 1)
 unfoldable pub leastOf : ℕ → (ℕ → ℕ) → ℕ → ℕ
@@ -54,7 +56,7 @@ LongConstant q m c x symbol votes next = (w : List ℕ) → Packed (2 ^ (m - 4))
 -- the first m + 1 places of s win all votes of w; wrong and margin are theirs
 pub record Winning (q m : ℕ) (w s : List ℕ) (wrong margin : ℕ) : Type 0 where
   pub size : length s ≡ 9
-  pub below : (k : ℕ) → k < suc m → at s k < q
+  pub below : Below q m (at s)
   pub wins : Winners q m (at s) (at w)
   pub distance : wrong ≡ near.distance q m (at s) (at w)
   pub least : margin ≡ lead.margin q m (at s) (at w)

@@ -4,7 +4,7 @@ use mathlib.Core.Path.{_≡_}
 use mathlib.Core.List.{List}
 use lib.ListN.{length}
 use Rattle.code_theory.specs.Sum.{at}
-use Rattle.code_theory.specs.Code.{linear, symbolAt}
+use Rattle.code_theory.specs.Code.{linear, symbolAt, Below}
 use mathlib.Core.Bool.{true}
 use Rattle.code_theory.specs.Question.{isAlphabet}
 
@@ -14,7 +14,7 @@ pub record Fits (q m : ℕ) (s w : List ℕ) : Type 0 where
   pub low : 2 ≤ m
   pub high : m ≤ 8
   pub size : m < length s
-  pub below : (k : ℕ) → k < suc m → at s k < q
+  pub below : Below q m (at s)
   pub room : 2 ^ m ≤ length w
 
 -- the first 2 ^ m places of w hold the word of s

@@ -1,4 +1,4 @@
--- What the helpers promise to each other. No public contract speaks of it.
+-- What the helpers promise to each other.
 use mathlib.Core.Path.{_≡_}
 use Prim.Native.Nat.{ℕ, suc, _^_, _<_}
 use mathlib.Core.Bool.{Bool, _&&_}

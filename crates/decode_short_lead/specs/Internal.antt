@@ -2,7 +2,7 @@
 use Prim.Native.Nat.{ℕ, _≤_, _<_}
 use Rattle.code_theory.specs.Sum.{sum}
 use Rattle.code_theory.specs.Modular.{same}
-use Rattle.swar_theory.specs.Digit.{digit}
+use Rattle.swar_theory.specs.Internal.{digit}
 
 -- how many of the sixteen lanes of x are v
 unfoldable pub lanesEqual : ℕ → ℕ → ℕ

@@ -2,7 +2,7 @@
 use Prim.Native.Nat.{ℕ, _+_, _<_, _≤_, min, max}
 use mathlib.Core.Path.{_≡_}
 use Rattle.code_theory.specs.Margin.{mostOther}
-use Rattle.swar_theory.specs.Digit.{digit}
+use Rattle.swar_theory.specs.Internal.{digit}
 
 -- of the values below n, symbol has the most votes, and any other at most next, which one of them has
 pub record Leads (n : ℕ) (f : ℕ → ℕ) (symbol votes next : ℕ) : Type 0 where

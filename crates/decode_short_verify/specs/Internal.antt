@@ -6,10 +6,10 @@ use Rattle.code_theory.specs.Sum.{at}
 use Rattle.code_theory.specs.Modular.{subMod}
 use Rattle.code_theory.specs.Code.{symbolAt}
 use Rattle.code_theory.specs.Near as near
-use Rattle.code_theory.proofs.ErrorLaws.{error}
-use Rattle.swar_theory.specs.Digit.{digit}
-use Rattle.swar_lanes.specs.Lane.{offset, Lanes}
-use Rattle.decode_short_candidate.specs.Candidate.{message, OnlyCandidate}
+use Rattle.code_theory.specs.Internal.{error}
+use Rattle.swar_theory.specs.Internal.{digit}
+use Rattle.swar_lanes.specs.Internal.{offset, Lanes}
+use Rattle.decode_short_candidate.specs.Internal.{message, OnlyCandidate}
 
 -- the lanes of r are those of x minus the word of the constant a and four coefficients, modulo q
 abbrev pub Left : ℕ → ℕ → ℕ → ℕ → ℕ → ℕ → ℕ → ℕ → Type 0

@@ -1,4 +1,4 @@
--- The coefficients that were found, and the quarter turns that they ask for. No public contract of document 01 speaks of it.
+-- The coefficients that were found, and the quarter turns that they ask for.
 use mathlib.Core.Path.{_≡_}
 use Prim.Native.Nat.{ℕ, suc, _%_, _^_, _<_}
 use mathlib.Core.List.{List}

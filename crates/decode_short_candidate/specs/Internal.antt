@@ -5,10 +5,10 @@ use mathlib.Core.List.{List, [], _∷_}
 use Rattle.code_theory.specs.Sum.{at}
 use Rattle.code_theory.specs.Modular.{subMod}
 use Rattle.code_theory.specs.Near.{Near}
-use Rattle.code_theory.proofs.WinnerLaws as winner
-use Rattle.swar_theory.specs.Digit.{digit}
-use Rattle.swar_lanes.specs.Lane.{offset, Lanes, Held}
-use Rattle.decode_short_errors.specs.Places.{plain}
+use Rattle.code_theory.specs.Code as code
+use Rattle.swar_theory.specs.Internal.{digit}
+use Rattle.swar_lanes.specs.Internal.{offset, Lanes, Held}
+use Rattle.decode_short_errors.specs.Internal.{plain}
 use Rattle.decode_short_candidate.specs.declared.Candidate.{Candidate}
 
 -- the lanes of d are those of x minus the word of four coefficients, modulo q
@@ -31,7 +31,7 @@ messageOf g = message (g .constant) (g .c0) (g .c1) (g .c2) (g .c3) (g .c4)
 -- d is the only message that can be near the word w of 2^m places
 pub record OnlyCandidate (q m : ℕ) (w d : List ℕ) : Type 0 where
   pub below : (k : ℕ) → k < 6 → at d k < q
-  pub only : (s : ℕ → ℕ) → winner.Below q m s → Near q m s (at w) → (k : ℕ) → k < suc m → at d k ≡ s k
+  pub only : (s : ℕ → ℕ) → code.Below q m s → Near q m s (at w) → (k : ℕ) → k < suc m → at d k ≡ s k
 
 -- d is the candidate of any word that x holds from its first place on
 abbrev pub CandidateOf : ℕ → ℕ → ℕ → List ℕ → Type 0

@@ -6,7 +6,7 @@ use mathlib.Core.List.{List}
 use lib.ListN.{length}
 use Rattle.session_receiver.specs.declared.Receiver.{Receiver}
 use Rattle.text_chunks.specs.Chunks.{Progress}
-use Rattle.text_chunks.specs.Parts.{Took}
+use Rattle.text_chunks.specs.Internal.{Took}
 use Rattle.list_line.specs.declared.Listed.{Listed}
 use Rattle.list_stream.specs.declared.Lister.{Lister}
 use Rattle.list_stream.specs.declared.Step.{Step}

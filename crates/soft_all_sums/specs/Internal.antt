@@ -1,4 +1,4 @@
--- What the helpers promise to each other, and all sums to the soft read. No public contract of document 01 speaks of it.
+-- What the helpers promise to each other, and all sums to the soft read.
 use mathlib.Core.Path.{_≡_}
 use Prim.Native.Nat.{ℕ, zero, suc, _+_, _*_, _≤_, _<_}
 use mathlib.Core.List.{List, [], _∷_}
@@ -7,10 +7,10 @@ use lib.Ieee.{Float, binary32, ofBits}
 use Rattle.soft_theory.specs.Numbers.{f32}
 use Rattle.soft_theory.specs.Complex.{Complex, sample}
 use Rattle.soft_theory.specs.Soft.{voteSums}
-use Rattle.soft_theory.proofs.SumsLaws.{votesTo}
+use Rattle.soft_theory.specs.Internal.{votesTo}
 use Rattle.soft_vote_sums.specs.declared.Sums.{Sums}
-use Rattle.soft_vote_sums.specs.Pair.{pair, complex}
-use Rattle.soft_vote_sums.specs.Work.{voteAt}
+use Rattle.soft_vote_sums.specs.Pair.{pair}
+use Rattle.soft_vote_sums.specs.Internal.{complex, voteAt}
 
 -- no sum
 abbrev pub none : Sums
