@@ -7,7 +7,7 @@ fn main() {
     let package = PathBuf::from(env::var_os("CARGO_MANIFEST_DIR").expect("set by cargo"));
     let folder = package.join("../target/staticlib");
     println!("cargo:rustc-link-search=native={}", folder.display());
-    for name in ["compare_codec", "rm_c", "compare_session", "compare_soft"] {
+    for name in ["compare_codec", "rm_c", "compare_session", "compare_soft", "compare_strap"] {
         println!("cargo:rerun-if-changed={}", folder.join(format!("lib{name}.a")).display());
         println!("cargo:rustc-link-lib=static={name}");
     }

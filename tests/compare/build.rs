@@ -2,7 +2,7 @@
 
 use std::{env, path::PathBuf};
 
-const LIBRARIES: [&str; 4] = ["compare_codec", "rm_c", "compare_session", "compare_soft"];
+const LIBRARIES: [&str; 5] = ["compare_codec", "rm_c", "compare_session", "compare_soft", "compare_strap"];
 
 fn main() {
     let package = PathBuf::from(env::var_os("CARGO_MANIFEST_DIR").expect("set by cargo"));

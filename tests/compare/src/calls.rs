@@ -75,6 +75,12 @@ mod raw {
             im_len: usize,
         ) -> u32;
     }
+
+    #[link(name = "compare_strap", kind = "static")]
+    extern "C" {
+        pub fn compare_pack(message: *mut u8, message_len: usize, rate: u8, zone: u8) -> u32;
+        pub fn compare_unpack(message: *const u8, message_len: usize) -> u32;
+    }
 }
 
 /// The refusal number, or 1,000,000 for a word written.
@@ -151,4 +157,16 @@ pub fn soft_read(m: u32, message: &mut [u8], re: &[f32], im: &[f32]) -> u32 {
     let (length, re_length, im_length) = (message.len(), re.len(), im.len());
     // SAFETY: each pointer and length is that of a slice lent for the call.
     unsafe { raw::compare_soft_read(m, message.as_mut_ptr(), length, re.as_ptr(), re_length, im.as_ptr(), im_length) }
+}
+
+/// The refusal number, or 100.
+pub fn pack(message: &mut [u8], rate: u8, zone: u8) -> u32 {
+    // SAFETY: the pointer and length are those of a slice lent for the call.
+    unsafe { raw::compare_pack(message.as_mut_ptr(), message.len(), rate, zone) }
+}
+
+/// The refusal number, or 1,000,000 + 1,000 * rate + zone.
+pub fn unpack(message: &[u8]) -> u32 {
+    // SAFETY: the pointer and length are those of a slice lent for the call.
+    unsafe { raw::compare_unpack(message.as_ptr(), message.len()) }
 }

@@ -17,6 +17,8 @@ mod sessions;
 mod soft;
 mod soft_cases;
 mod soft_model;
+mod strap;
+mod strap_model;
 mod whole;
 
 use std::process::ExitCode;
@@ -28,6 +30,7 @@ use listings::Listings;
 use model::Model;
 use sessions::Sessions;
 use soft::Soft;
+use strap::Strap;
 use whole::Whole;
 
 const SEED: u64 = 0x5742_7d01_e5a1_9c33;
@@ -51,6 +54,7 @@ fn main() -> ExitCode {
     sessions(&mut report, &mut random, &model);
     listings(&mut report, &mut random, &model);
     soft(&mut report, &mut random);
+    strap(&mut report, &mut random);
     finish(&report)
 }
 
@@ -102,6 +106,17 @@ fn soft(report: &mut Report, random: &mut Random) {
     soft.words(report, random, SOFT_WORDS);
     soft.random(report, random, SOFT_RANDOM);
     soft.finish(report);
+}
+
+fn strap(report: &mut Report, random: &mut Random) {
+    let mut strap = Strap::new();
+    println!("compare: every record and every message of the strap, and messages that are not sound");
+    strap.example(report);
+    strap.every_record(report, random);
+    strap.every_message(report, random);
+    strap.every_byte(report, random);
+    strap.every_length(report, random);
+    strap.finish(report);
 }
 
 fn finish(report: &Report) -> ExitCode {
