@@ -1,8 +1,10 @@
 //! Agreement before time: on every input that is measured, all implementations give the same answer and leave the same
 //! bytes.
 
+use common::questions::{CODES, GREATEST_M, LEAST_M};
+
 use crate::inputs::{self, Kind, Samples};
-use crate::{calls, codes, proved};
+use crate::{calls, proved};
 
 /// What stands in a buffer at entry.
 const ENTRY: u8 = 77;
@@ -82,13 +84,13 @@ fn soft(m: u32) -> Result<usize, String> {
 /// Compares all calls on all inputs, and gives the number of inputs.
 pub fn all() -> Result<usize, String> {
     let mut count = 0;
-    for (q, m) in codes() {
+    for (q, m) in CODES {
         for kind in inputs::KINDS {
             count += reads(q, m, kind)?;
         }
         count += writes(q, m)?;
     }
-    for m in 2..=8 {
+    for m in LEAST_M..=GREATEST_M {
         count += soft(m)?;
     }
     Ok(count)

@@ -1,6 +1,7 @@
 //! The implementations in Rust as calls of the same form as the proved ones: slices in, one number out, not inlined.
 
-use crate::questions::Refusal;
+use common::questions::Refusal;
+
 use crate::{plain, safe, soft, Reading};
 
 /// 1,000,000 for a word written.

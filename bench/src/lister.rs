@@ -2,10 +2,10 @@
 
 use std::io::{self, Write};
 
+use common::session::{SLOTS, SLOT_MS};
+
 use crate::safe;
 
-const SLOTS: u32 = 65_536;
-const SLOT_MS: u32 = 1_024;
 const BUFFER: usize = 1 << 16;
 
 /// More than any printed line takes.

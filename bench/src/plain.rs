@@ -1,15 +1,15 @@
 //! Plain safe Rust, (a): the bit of every index is tested, and every sum is taken modulo q.
 
-use crate::questions::{is_alphabet, is_variables, yes, Refusal};
+use common::questions::{all_below, answer_code, is_message_size, is_word_size, yes, Refusal};
+
 use crate::Reading;
 
 /// Reads a word, or gives the number of the first question answered no: 1, 2, 5, 7, 8, 9.
 pub fn read(q: u32, m: u32, message: &mut [u8], word: &[u8]) -> Result<Reading, Refusal> {
-    yes(is_alphabet(q), 1)?;
-    yes(is_variables(m), 2)?;
-    yes(message.len() == m as usize + 1, 5)?;
-    yes(word.len() == 1 << m, 7)?;
-    yes(word.iter().all(|&symbol| u32::from(symbol) < q), 8)?;
+    answer_code(q, m)?;
+    yes(is_message_size(m, message.len()), 5)?;
+    yes(is_word_size(m, word.len()), 7)?;
+    yes(all_below(q, word), 8)?;
     let mut found = [0; 9];
     let mut margin = u32::MAX;
     for k in 0..m as usize {
@@ -77,11 +77,10 @@ fn winner(votes: &[u32; 8]) -> (u8, u32, u32) {
 
 /// Writes the word of a message, or gives the number of the first question answered no: 1, 2, 5, 6, 7.
 pub fn write(q: u32, m: u32, message: &[u8], word: &mut [u8]) -> Result<(), Refusal> {
-    yes(is_alphabet(q), 1)?;
-    yes(is_variables(m), 2)?;
-    yes(message.len() == m as usize + 1, 5)?;
-    yes(message.iter().all(|&symbol| u32::from(symbol) < q), 6)?;
-    yes(word.len() == 1 << m, 7)?;
+    answer_code(q, m)?;
+    yes(is_message_size(m, message.len()), 5)?;
+    yes(all_below(q, message), 6)?;
+    yes(is_word_size(m, word.len()), 7)?;
     for (i, symbol) in word.iter_mut().enumerate() {
         *symbol = symbol_at(q, message[0], &message[1..], i) as u8;
     }

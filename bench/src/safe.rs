@@ -3,7 +3,8 @@
 //! const generics write: a reader for each of the 21 codes, a writer for each of the seven lengths. (c) are the same with one
 //! body for all codes, q and m being arguments.
 
-use crate::questions::{all_below, is_alphabet, is_variables, yes, Refusal};
+use common::questions::{answer_code, is_alphabet, is_message_size, is_word_size, yes, Refusal};
+
 use crate::Reading;
 
 /// One vote for the symbol.
@@ -15,6 +16,12 @@ struct Winner {
     symbol: u8,
     votes: u32,
     next: u32,
+}
+
+/// Questions 6 and 8, without a branch at each symbol: q is a power of two.
+#[inline(always)]
+fn all_below(q: u32, symbols: &[u8]) -> bool {
+    symbols.iter().fold(0, |all, &symbol| all | symbol) < q as u8
 }
 
 /// The votes y - x modulo q.
@@ -86,10 +93,9 @@ fn read_into(
 /// Reader (c): reads a word, or gives the number of the first question answered no: 1, 2, 5, 7, 8, 9.
 #[inline(always)]
 pub fn read(q: u32, m: u32, message: &mut [u8], word: &[u8]) -> Result<Reading, Refusal> {
-    yes(is_alphabet(q), 1)?;
-    yes(is_variables(m), 2)?;
-    yes(message.len() == m as usize + 1, 5)?;
-    yes(word.len() == 1 << m, 7)?;
+    answer_code(q, m)?;
+    yes(is_message_size(m, message.len()), 5)?;
+    yes(is_word_size(m, word.len()), 7)?;
     yes(all_below(q, word), 8)?;
     let (mut found, mut code) = ([0; 9], [0; 256]);
     let (found, code) = (&mut found[..message.len()], &mut code[..word.len()]);
@@ -160,11 +166,10 @@ pub fn read_each(q: u32, m: u32, message: &mut [u8], word: &[u8]) -> Result<Read
 /// Writer (c): writes the word of a message, or gives the number of the first question answered no: 1, 2, 5, 6, 7.
 #[inline(always)]
 pub fn write(q: u32, m: u32, message: &[u8], word: &mut [u8]) -> Result<(), Refusal> {
-    yes(is_alphabet(q), 1)?;
-    yes(is_variables(m), 2)?;
-    yes(message.len() == m as usize + 1, 5)?;
+    answer_code(q, m)?;
+    yes(is_message_size(m, message.len()), 5)?;
     yes(all_below(q, message), 6)?;
-    yes(word.len() == 1 << m, 7)?;
+    yes(is_word_size(m, word.len()), 7)?;
     word[0] = message[0];
     for (k, &a) in message[1..].iter().enumerate() {
         double(1 << k, a, q as u8 - 1, word);

@@ -1,7 +1,7 @@
 //! The best safe Rust for soft samples, q = 4, with the bits of the order of operations that docs/REQUIREMENTS.md sets: the sums of several
 //! coefficients run side by side, since each waits for the addition before.
 
-use crate::questions::{is_variables, yes, Refusal};
+use common::questions::{is_variables, yes, Refusal};
 
 /// A real and an imaginary sum.
 #[derive(Clone, Copy, Default)]

@@ -3,9 +3,11 @@
 use std::path::{Path, PathBuf};
 use std::{env, fmt, fs};
 
+use common::questions::{CODES, GREATEST_M, LEAST_M};
+
 use crate::inputs::{self, COUNT, KINDS};
 use crate::passes::{self, Pass};
-use crate::{calls, codes, processes, proved, timing};
+use crate::{calls, processes, proved, timing};
 
 /// The rows of a table are measured over and over, so many times in all, and the best times count: a load on the machine
 /// comes and goes.
@@ -107,8 +109,10 @@ fn verdict<'a>(bar: f64, what: &str, ratios: impl IntoIterator<Item = &'a Ratio>
 /// Decode: every code, with words of every kind.
 pub fn decode() {
     let kinds = || KINDS.into_iter().zip(["clean", "lightly damaged", "doubtful"]);
-    let rows: Vec<_> =
-        codes().flat_map(|(q, m)| kinds().map(move |(kind, name)| (q, m, name, inputs::words(q, m, kind)))).collect();
+    let rows: Vec<_> = CODES
+        .into_iter()
+        .flat_map(|(q, m)| kinds().map(move |(kind, name)| (q, m, name, inputs::words(q, m, kind))))
+        .collect();
     let times = sweep("decode", &rows, |&(q, m, _, ref words)| {
         [
             passes::read(proved::compare_decode, q, m, words),
@@ -123,23 +127,9 @@ pub fn decode() {
         each.map(|((q, m, name, _), times)| Ratio::new(times[other], times[0], &place(q, m, name))).collect()
     };
     let (plain, best, one) = (ratios(1), ratios(2), ratios(3));
-    head(&[
-        "q",
-        "m",
-        "ns, clean",
-        "(a)",
-        "(b)",
-        "(c)",
-        "ns, light",
-        "(a)",
-        "(b)",
-        "(c)",
-        "ns, doubtful",
-        "(a)",
-        "(b)",
-        "(c)",
-    ]);
-    for (first, (q, m)) in (0..).step_by(KINDS.len()).zip(codes()) {
+    let titles = ["ns, clean", "ns, light", "ns, doubtful"].map(|ns| [ns, "(a)", "(b)", "(c)"]);
+    head(&[vec!["q", "m"], titles.concat()].concat());
+    for (first, (q, m)) in (0..).step_by(KINDS.len()).zip(CODES) {
         let cells =
             |i: usize| [format!("{:.0}", times[i][0]), plain[i].to_string(), best[i].to_string(), one[i].to_string()];
         row([q, m].map(|x| x.to_string()).into_iter().chain((first..first + KINDS.len()).flat_map(cells)));
@@ -154,7 +144,7 @@ pub fn decode() {
 
 /// Encode: every code.
 pub fn encode() {
-    let rows: Vec<_> = codes().map(|(q, m)| (q, m, inputs::messages(q, m))).collect();
+    let rows: Vec<_> = CODES.into_iter().map(|(q, m)| (q, m, inputs::messages(q, m))).collect();
     let times = sweep("encode", &rows, |&(q, m, ref messages)| {
         [
             passes::write(proved::compare_encode, q, m, messages),
@@ -164,12 +154,12 @@ pub fn encode() {
         ]
     });
     let ratios = |other: usize| -> Vec<Ratio> {
-        let each = times.iter().zip(codes());
+        let each = times.iter().zip(CODES);
         each.map(|(times, (q, m))| Ratio::new(times[other], times[0], &format!("q {q}, m {m}"))).collect()
     };
     let (plain, best, one) = (ratios(1), ratios(2), ratios(3));
     head(&["q", "m", "ns", "(a)", "(b)", "(c)"]);
-    for (i, (q, m)) in codes().enumerate() {
+    for (i, (q, m)) in CODES.into_iter().enumerate() {
         let cells = [&plain, &best, &one].map(|ratios| ratios[i].to_string());
         row([q.to_string(), m.to_string(), format!("{:.1}", times[i][0])].into_iter().chain(cells));
     }
@@ -179,7 +169,7 @@ pub fn encode() {
 
 /// One soft vote and the soft read: every m.
 pub fn soft() {
-    let rows: Vec<_> = (2..=8).map(|m| (m, inputs::samples(m))).collect();
+    let rows: Vec<_> = (LEAST_M..=GREATEST_M).map(|m| (m, inputs::samples(m))).collect();
     let votes = sweep("votes", &rows, |&(m, ref samples)| {
         [passes::soft_vote(proved::soft_vote, m, samples), passes::soft_vote(calls::soft_vote, m, samples)]
     });
@@ -187,7 +177,7 @@ pub fn soft() {
         [passes::soft_read(proved::soft_read, m, samples), passes::soft_read(calls::soft_read, m, samples)]
     });
     let ratios = |times: &[Times<2>]| -> Vec<Ratio> {
-        (2..).zip(times).map(|(m, [proved, rust])| Ratio::new(*rust, *proved, &format!("m {m}"))).collect()
+        (LEAST_M..).zip(times).map(|(m, [proved, rust])| Ratio::new(*rust, *proved, &format!("m {m}"))).collect()
     };
     let (vote, read) = (ratios(&votes), ratios(&reads));
     head(&["m", "ns, vote", "vote", "ns, read", "read"]);

@@ -3,6 +3,9 @@
 //! A random case starts sound and then gets faults: none, one, or any number of them at once, so that the order of
 //! the questions shows.
 
+use common::questions::ALPHABETS;
+use common::random::Random;
+
 use crate::model;
 
 /// All arguments of one call. The buffer that the call fills has its content at entry.
@@ -12,45 +15,6 @@ pub struct Case {
     pub m: u32,
     pub message: Vec<u8>,
     pub word: Vec<u8>,
-}
-
-/// The splitmix64 generator.
-pub struct Random(u64);
-
-impl Random {
-    pub fn new(seed: u64) -> Random {
-        Random(seed)
-    }
-
-    pub fn next(&mut self) -> u64 {
-        self.0 = self.0.wrapping_add(0x9e37_79b9_7f4a_7c15);
-        let mut z = self.0;
-        z = (z ^ (z >> 30)).wrapping_mul(0xbf58_476d_1ce4_e5b9);
-        z = (z ^ (z >> 27)).wrapping_mul(0x94d0_49bb_1331_11eb);
-        z ^ (z >> 31)
-    }
-
-    /// A number below the bound, which is at least 1.
-    pub fn below(&mut self, bound: usize) -> usize {
-        (self.next() % bound as u64) as usize
-    }
-
-    /// True once in so many times.
-    pub fn one_in(&mut self, times: usize) -> bool {
-        self.below(times) == 0
-    }
-
-    pub fn pick<T: Copy>(&mut self, list: &[T]) -> T {
-        list[self.below(list.len())]
-    }
-
-    pub fn bytes(&mut self, length: usize) -> Vec<u8> {
-        (0..length).map(|_| self.next() as u8).collect()
-    }
-
-    pub fn symbols(&mut self, q: u32, length: usize) -> Vec<u8> {
-        (0..length).map(|_| self.below(q as usize) as u8).collect()
-    }
 }
 
 /// Sizes that no alphabet has, with the neighbours of 2, 4 and 8 and numbers that wrap to them.
@@ -104,7 +68,7 @@ fn faults(random: &mut Random) -> [bool; 5] {
 fn spoil(random: &mut Random, faults: [bool; 5], case: &mut Case) {
     let [alphabet, m, _, message, word] = faults;
     if alphabet {
-        case.q = other_number(random, &BAD_ALPHABETS, &model::ALPHABETS);
+        case.q = other_number(random, &BAD_ALPHABETS, &ALPHABETS);
     }
     if m {
         case.m = other_number(random, &BAD_M, &[2, 3, 4, 5, 6, 7, 8]);
@@ -198,7 +162,7 @@ pub fn damaged(random: &mut Random, q: u32, message: &[u8], count: usize) -> Vec
 /// Alters places far apart, each by a gap from 1 to q - 1.
 fn damage_spread(random: &mut Random, q: u32, word: &mut [u8], count: usize, gap: impl Fn(&mut Random) -> usize) {
     let mut places: Vec<usize> = (0..word.len()).collect();
-    for &place in choose(random, &mut places, count) {
+    for &place in random.choose(&mut places, count) {
         alter(q, &mut word[place], gap(random));
     }
 }
@@ -223,19 +187,9 @@ fn damage_towards(random: &mut Random, q: u32, word: &mut [u8], message: &[u8], 
     }
     let target = model::codeword(q, &other);
     let mut places: Vec<usize> = (0..word.len()).filter(|&i| word[i] != target[i]).collect();
-    for &place in choose(random, &mut places, count) {
+    for &place in random.choose(&mut places, count) {
         word[place] = target[place];
     }
-}
-
-/// The first `count` places, or all where there are fewer, after a shuffle.
-fn choose<'a>(random: &mut Random, places: &'a mut [usize], count: usize) -> &'a [usize] {
-    let count = count.min(places.len());
-    for i in 0..count {
-        let j = i + random.below(places.len() - i);
-        places.swap(i, j);
-    }
-    &places[..count]
 }
 
 fn alter(q: u32, symbol: &mut u8, gap: usize) {

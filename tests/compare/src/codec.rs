@@ -1,7 +1,10 @@
 //! Encode and decode compared: one case at a time, every word and message of the small codes, and random cases.
 
-use crate::calls;
-use crate::cases::{self, Case, Random};
+use common::calls;
+use common::questions::CODES;
+use common::random::Random;
+
+use crate::cases::{self, Case};
 use crate::check::{Counts, Guarded, Report};
 use crate::model::{self, Model, Reading};
 
@@ -28,12 +31,11 @@ pub struct Codec<'a> {
 
 impl Codec<'_> {
     pub fn new(model: &Model) -> Codec<'_> {
-        let codes = model::codes();
         Codec {
             model,
-            encoded: Counts::new("encode", &[1, 2, 5, 6, 7], &codes),
-            decoded: Counts::new("decode", &[1, 2, 5, 7, 8, 9], &codes),
-            last_near: Counts::new("decode with wrong n/4 - 1", &[], &codes),
+            encoded: Counts::new("encode", &[1, 2, 5, 6, 7], &CODES),
+            decoded: Counts::new("decode", &[1, 2, 5, 7, 8, 9], &CODES),
+            last_near: Counts::new("decode with wrong n/4 - 1", &[], &CODES),
         }
     }
 
@@ -92,7 +94,7 @@ impl Codec<'_> {
 
     /// Every message of the codes that have few is written, and its word read back undamaged.
     pub fn every_message(&mut self, report: &mut Report) {
-        for (q, m) in model::codes() {
+        for (q, m) in CODES {
             let count = model::message_count(q, m);
             if count > model::FEW_MESSAGES {
                 continue;
@@ -118,13 +120,12 @@ impl Codec<'_> {
 
     /// Random cases, with faults and without.
     pub fn random(&mut self, report: &mut Report, random: &mut Random, encodes: u32, decodes: u32) {
-        let codes = model::codes();
         for _ in 0..encodes {
-            let code = random.pick(&codes);
+            let code = random.pick(&CODES);
             let _ = self.encode(report, &cases::encode_case(random, code));
         }
         for _ in 0..decodes {
-            let code = random.pick(&codes);
+            let code = random.pick(&CODES);
             let _ = self.decode(report, &cases::decode_case(random, code));
         }
     }
@@ -132,7 +133,7 @@ impl Codec<'_> {
     /// In every code, words at each distance up to a quarter from a known codeword: below it that message is read,
     /// with the distance as wrong and a margin of at least n/2 - 2 * wrong; at the quarter the word is doubtful.
     pub fn up_to_the_quarter(&mut self, report: &mut Report, random: &mut Random, rounds: u32) {
-        for (q, m) in model::codes() {
+        for (q, m) in CODES {
             for round in 0..rounds {
                 let quarter = 1 << (m - 2);
                 let count = if round % 2 == 0 { quarter } else { random.below(quarter) };

@@ -3,6 +3,7 @@
 
 use crate::model::Model;
 use crate::session_model::{Delivery, Received, Receiver};
+use crate::strap_model::{self, LENGTH, STRAP};
 
 const HEADER: &str = "ms rate zone wrong margin\n";
 
@@ -33,7 +34,7 @@ fn lines(input: &[u8]) -> Vec<&[u8]> {
 
 /// Everything that the program prints for an input.
 pub fn list(model: &Model, input: &[u8]) -> String {
-    let mut session = Receiver::open(4, 4).expect("the strap's code");
+    let mut session = Receiver::open(STRAP.0, STRAP.1).expect("the strap's code");
     let mut text = String::from(HEADER);
     for line in lines(input) {
         let printed = answer(model, &mut session, line_of(line));
@@ -55,7 +56,7 @@ fn answer(model: &Model, session: &mut Receiver, line: Line) -> String {
             Ok(next) => (next, format!("{ms} missed")),
             Err(number) => return over(number),
         },
-        Line::Word(word) => match session.receive(model, 5, &word) {
+        Line::Word(word) => match session.receive(model, LENGTH, &word) {
             Received::Read(next, delivery, message) => (next, read(ms, &delivery, &message)),
             Received::Doubtful(next) => (next, format!("{ms} doubtful")),
             Received::Refused(number) => return over(number),
@@ -66,7 +67,7 @@ fn answer(model: &Model, session: &mut Receiver, line: Line) -> String {
 }
 
 fn read(ms: u32, delivery: &Delivery, message: &[u8]) -> String {
-    let rate = message[1..].iter().rev().fold(0, |rate, &symbol| 4 * rate + u32::from(symbol));
+    let rate = strap_model::unpack(message).expect("a message of the strap").rate;
     let zone = delivery.zone.map_or(String::from("-"), |zone| zone.to_string());
     format!("{ms} {rate} {zone} {} {}", delivery.wrong, delivery.margin)
 }

@@ -5,11 +5,13 @@ use std::io::Write;
 use std::process::{Command, Stdio};
 use std::thread;
 
-use crate::cases::{self, Random};
+use common::random::Random;
+use common::session::SLOTS;
+
+use crate::cases;
 use crate::check::Report;
 use crate::lister;
 use crate::model::Model;
-use crate::session_model::SLOTS;
 
 const PROGRAM: &str = concat!(env!("CARGO_MANIFEST_DIR"), "/../../target/bin/session_list");
 

@@ -4,7 +4,6 @@
 //!
 //! The last line is `compare: ok, N cases`; any mismatch is printed and ends the program with status 1.
 
-mod calls;
 mod cases;
 mod check;
 mod codec;
@@ -23,9 +22,9 @@ mod whole;
 
 use std::process::ExitCode;
 
-use cases::Random;
 use check::Report;
 use codec::Codec;
+use common::random::Random;
 use listings::Listings;
 use model::Model;
 use sessions::Sessions;

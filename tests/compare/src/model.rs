@@ -4,10 +4,7 @@
 //! vote; `read_by_votes` takes the winners of the votes and recounts the distance. Codes with few messages are read
 //! in both ways, and the two must agree.
 
-/// The sizes of the alphabets, and the least and the greatest m.
-pub const ALPHABETS: [u32; 3] = [2, 4, 8];
-pub const LEAST_M: u32 = 2;
-pub const GREATEST_M: u32 = 8;
+use common::questions::{all_below, answer_code, is_message_size, is_word_size, yes, CODES};
 
 /// A code with at most so many messages is read by search as well.
 pub const FEW_MESSAGES: usize = 4096;
@@ -20,11 +17,6 @@ pub struct Reading {
     pub message: Vec<u8>,
     pub wrong: u32,
     pub margin: u32,
-}
-
-/// All 21 codes, as (q, m).
-pub fn codes() -> Vec<(u32, u32)> {
-    ALPHABETS.iter().flat_map(|&q| (LEAST_M..=GREATEST_M).map(move |m| (q, m))).collect()
 }
 
 /// The number of messages of a code: q^(m + 1).
@@ -172,9 +164,9 @@ impl Codebook {
 /// The word written, or the number of the first question answered no: 1, 2, 5, 6, 7.
 pub fn encode(q: u32, m: u32, message: &[u8], word_len: usize) -> Result<Vec<u8>, u32> {
     answer_code(q, m)?;
-    yes(message.len() == m as usize + 1, 5)?;
-    yes(message.iter().all(|&symbol| u32::from(symbol) < q), 6)?;
-    yes(word_len == 1 << m, 7)?;
+    yes(is_message_size(m, message.len()), 5)?;
+    yes(all_below(q, message), 6)?;
+    yes(is_word_size(m, word_len), 7)?;
     Ok(codeword(q, message))
 }
 
@@ -186,16 +178,16 @@ pub struct Model {
 impl Model {
     pub fn new() -> Model {
         let few = |&(q, m): &(u32, u32)| message_count(q, m) <= FEW_MESSAGES;
-        let codebooks = codes().into_iter().filter(few).map(|(q, m)| Codebook::new(q, m));
+        let codebooks = CODES.into_iter().filter(few).map(|(q, m)| Codebook::new(q, m));
         Model { codebooks: codebooks.collect() }
     }
 
     /// The reading, or the number of the first question answered no: 1, 2, 5, 7, 8, 9.
     pub fn decode(&self, q: u32, m: u32, message_len: usize, word: &[u8]) -> Result<Reading, u32> {
         answer_code(q, m)?;
-        yes(message_len == m as usize + 1, 5)?;
-        yes(word.len() == 1 << m, 7)?;
-        yes(word.iter().all(|&symbol| u32::from(symbol) < q), 8)?;
+        yes(is_message_size(m, message_len), 5)?;
+        yes(is_word_size(m, word.len()), 7)?;
+        yes(all_below(q, word), 8)?;
         self.read(q, m, word).ok_or(9)
     }
 
@@ -208,23 +200,4 @@ impl Model {
         }
         voted
     }
-}
-
-/// Questions 1 and 2.
-pub fn answer_code(q: u32, m: u32) -> Result<(), u32> {
-    yes(is_alphabet(q), 1)?;
-    yes(is_variables(m), 2)
-}
-
-pub fn is_alphabet(q: u32) -> bool {
-    ALPHABETS.contains(&q)
-}
-
-pub fn is_variables(m: u32) -> bool {
-    (LEAST_M..=GREATEST_M).contains(&m)
-}
-
-/// The number where the answer is no.
-pub fn yes(answer: bool, number: u32) -> Result<(), u32> {
-    answer.then_some(()).ok_or(number)
 }

@@ -3,11 +3,10 @@
 //! A session may have any values, sound or not. As numbers it is q, m, the last constant or the reference, and the
 //! slots used.
 
-use crate::model::{self, yes, Model};
+use common::questions::{answer_code, is_alphabet, is_variables, yes};
+use common::session::{SLOTS, SLOT_MS};
 
-/// The slots of a session, and how many ms each lasts.
-pub const SLOTS: u32 = 65_536;
-pub const SLOT_MS: u32 = 1024;
+use crate::model::{self, Model};
 
 /// Stands for a reference that is not held, and for a zone that there is not.
 pub const NONE: u32 = 256;
@@ -27,7 +26,7 @@ pub struct Sender {
 impl Sender {
     /// Open: asks 1, 2.
     pub fn open(q: u32, m: u32) -> Result<Sender, u32> {
-        model::answer_code(q, m)?;
+        answer_code(q, m)?;
         Ok(Sender { q, m, last: 0, used: 0 })
     }
 
@@ -87,7 +86,7 @@ pub enum Received {
 impl Receiver {
     /// Open: asks 1, 2.
     pub fn open(q: u32, m: u32) -> Result<Receiver, u32> {
-        model::answer_code(q, m)?;
+        answer_code(q, m)?;
         Ok(Receiver { q, m, reference: None, used: 0 })
     }
 
@@ -140,7 +139,7 @@ impl Receiver {
 /// Question 3, part by part. `fresh` says that there is nothing that a slot would have left.
 fn unsound(q: u32, m: u32, constant: Option<u8>, used: u32, fresh: bool) -> Unsound {
     let too_large = constant.is_some_and(|constant| u32::from(constant) >= q);
-    [!model::is_alphabet(q), !model::is_variables(m), too_large, used > SLOTS, used == 0 && !fresh]
+    [!is_alphabet(q), !is_variables(m), too_large, used > SLOTS, used == 0 && !fresh]
 }
 
 /// Questions 3 and 4.

@@ -1,11 +1,15 @@
 //! The calls of both sessions compared: after every call the answer, the session and every byte of the buffers. The
 //! lists of calls here are on any session, sound or not; those of an honest strap and launch are in `whole`.
 
-use crate::calls;
-use crate::cases::{self, Random};
+use common::calls;
+use common::questions::CODES;
+use common::random::Random;
+use common::session::SLOTS;
+
+use crate::cases;
 use crate::check::{Counts, Guarded, Report};
-use crate::model::{self, Model};
-use crate::session_model::{Received, Receiver, Sender, Unsound, NONE, PARTS, SLOTS};
+use crate::model::Model;
+use crate::session_model::{Received, Receiver, Sender, Unsound, NONE, PARTS};
 
 /// Numbers of slots used around both ends of a session.
 const USED: [u32; 10] = [0, 0, 1, 2, SLOTS - 2, SLOTS - 1, SLOTS - 1, SLOTS, SLOTS + 1, u32::MAX];
@@ -130,8 +134,7 @@ pub struct Sessions<'a> {
 
 impl Sessions<'_> {
     pub fn new(model: &Model) -> Sessions<'_> {
-        let codes = model::codes();
-        let counts = |name, questions| Counts::new(name, questions, &codes);
+        let counts = |name, questions| Counts::new(name, questions, &CODES);
         let answers = [
             counts("open a sender", &[1, 2]),
             counts("open a receiver", &[1, 2]),
@@ -211,9 +214,8 @@ impl Sessions<'_> {
 
     /// Lists of a few calls that start from any session: sends, or receives and misses, with faults and without.
     pub fn any_lists(&mut self, report: &mut Report, random: &mut Random, lists: u32) {
-        let codes = model::codes();
         for _ in 0..lists {
-            let code = random.pick(&codes);
+            let code = random.pick(&CODES);
             let mut slices = Slices::new(any_session(random, code));
             let sends = random.one_in(3);
             for _ in 0..=random.below(4) {
@@ -246,7 +248,7 @@ impl Sessions<'_> {
 
 /// q and m of a case for encode: sound, or one of them or both not.
 fn any_code(random: &mut Random) -> (u32, u32) {
-    let code = random.pick(&model::codes());
+    let code = random.pick(&CODES);
     let case = cases::encode_case(random, code);
     (case.q, case.m)
 }

@@ -1,10 +1,11 @@
 //! One soft vote and the soft read compared: the answer, the sums by their bits, and every byte of the buffers. Whole
 //! samples are voted on and read in integers as well.
 
-use crate::calls;
-use crate::cases::Random;
+use common::calls;
+use common::questions::{GREATEST_M, LEAST_M};
+use common::random::Random;
+
 use crate::check::{Counts, Guarded, Report};
-use crate::model::{GREATEST_M, LEAST_M};
 use crate::soft_cases::{self, Case};
 use crate::soft_model::{self, Vote};
 

@@ -1,6 +1,9 @@
 //! Cases for one soft vote and the soft read.
 
-use crate::cases::{self, Random};
+use common::questions::LEAST_M;
+use common::random::Random;
+
+use crate::cases;
 use crate::model;
 
 /// All arguments of both calls. The message has its content at entry.
@@ -88,7 +91,7 @@ pub fn pairs_near_the_line() -> Vec<(f32, f32)> {
 
 /// A pair whose parts are on the line of two thirds to within two steps of f32, where 3 * S and 2 * L round.
 pub fn pair_on_the_line(random: &mut Random) -> (f32, f32) {
-    let large = 64.0 + 63.0 * unit(random).abs();
+    let large = 64.0 + 63.0 * random.unit().abs();
     let little = f32::from_bits((large * 2.0 / 3.0).to_bits() + random.below(5) as u32 - 2);
     let (re, im) = random.pick(&[(large, little), (little, large)]);
     (re * random.pick(&[1.0, -1.0]), im * random.pick(&[1.0, -1.0]))
@@ -98,8 +101,8 @@ pub fn pair_on_the_line(random: &mut Random) -> (f32, f32) {
 /// that its decision shows how each addition was rounded.
 pub fn constant_on_the_line(random: &mut Random, message: &[u8]) -> Case {
     let n = 1 << (message.len() - 1);
-    let larges: Vec<f32> = (0..n).map(|_| 90.0 + unit(random)).collect();
-    let mut littles: Vec<f32> = (0..n).map(|_| 60.0 + unit(random)).collect();
+    let larges: Vec<f32> = (0..n).map(|_| 90.0 + random.unit()).collect();
+    let mut littles: Vec<f32> = (0..n).map(|_| 60.0 + random.unit()).collect();
     let sum = |parts: &[f32]| parts.iter().fold(0.0, |sum: f32, part| sum + part);
     let line = sum(&larges) * 2.0 / 3.0;
     let step = f32::from_bits(line.to_bits() + 1) - line;
@@ -117,15 +120,10 @@ fn turned(turns: u8, sample: (f32, f32)) -> (f32, f32) {
     (0..turns).fold(sample, |(re, im), _| (-im, re))
 }
 
-/// A number from -1 to 1.
-fn unit(random: &mut Random) -> f32 {
-    2.0 * (random.next() as u32 as f32 / u32::MAX as f32) - 1.0
-}
-
 /// The ideal samples of the message's word, each part off by at most `hiss` and kept in range.
 pub fn word(random: &mut Random, message: &[u8], hiss: u32, whole: bool) -> Case {
     let mut off = |ideal: f32| {
-        let part = ideal + hiss as f32 * unit(random);
+        let part = ideal + hiss as f32 * random.unit();
         (if whole { part.round() } else { part }).clamp(-127.0, 127.0)
     };
     let ideal = model::codeword(4, message).into_iter().map(|symbol| IDEAL[usize::from(symbol)]);
@@ -135,11 +133,11 @@ pub fn word(random: &mut Random, message: &[u8], hiss: u32, whole: bool) -> Case
 
 /// Random samples with no, one or several faults.
 pub fn random(random: &mut Random) -> Case {
-    let m = model::LEAST_M + random.below(7) as u32;
+    let m = LEAST_M + random.below(7) as u32;
     let k = random.below(m as usize) as u32;
     let whole = random.one_in(2);
     let mut parts = || -> Vec<f32> {
-        let parts = (0..1 << m).map(|_| 127.0 * unit(random));
+        let parts = (0..1 << m).map(|_| 127.0 * random.unit());
         parts.map(|part| if whole { part.round() } else { part }).collect()
     };
     let (re, im) = (parts(), parts());

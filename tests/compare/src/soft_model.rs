@@ -1,6 +1,6 @@
 //! The second implementation of the soft samples, in the numbers of `Number`: f32, and integers for whole samples.
 
-use crate::model::{is_variables, yes};
+use common::questions::{is_message_size, is_variables, is_word_size, yes};
 
 /// The operations that the document uses.
 pub trait Number: Copy + PartialOrd {
@@ -148,14 +148,14 @@ pub fn vote(m: u32, k: u32, re: &[f32], im: &[f32]) -> Result<Vote, u32> {
 /// The message, or the number of the first question answered no: 2, 5, 7, 10, 11.
 pub fn read(m: u32, message_len: usize, re: &[f32], im: &[f32]) -> Result<Vec<u8>, u32> {
     yes(is_variables(m), 2)?;
-    yes(message_len == m as usize + 1, 5)?;
+    yes(is_message_size(m, message_len), 5)?;
     answer_samples(m, re, im)?;
     sound_read(m, re, im).ok_or(11)
 }
 
 /// Questions 7 and 10.
 fn answer_samples(m: u32, re: &[f32], im: &[f32]) -> Result<(), u32> {
-    yes(re.len() == 1 << m && im.len() == 1 << m, 7)?;
+    yes(is_word_size(m, re.len()) && is_word_size(m, im.len()), 7)?;
     yes(re.iter().chain(im).all(|&part| in_range(part)), 10)
 }
 

@@ -1,13 +1,11 @@
 //! Pack and unpack compared: the answer and every byte of the message's array.
 
-use crate::calls;
-use crate::cases::Random;
+use common::calls;
+use common::random::Random;
+
 use crate::check::{Counts, Guarded, Report};
 use crate::model;
-use crate::strap_model::{self, Message, Record, LENGTH, SYMBOLS};
-
-/// The code of the strap.
-const CODE: (u32, u32) = (4, 4);
+use crate::strap_model::{self, Message, Record, LENGTH, STRAP};
 
 /// The document's example of packing ("Words from the lake").
 const EXAMPLE: (Record, Message) = (Record { rate: 141, zone: 1 }, [1, 1, 3, 0, 2]);
@@ -23,7 +21,7 @@ pub struct Strap {
 
 impl Strap {
     pub fn new() -> Strap {
-        let counts = |name, questions| Counts::new(name, questions, &[CODE]);
+        let counts = |name, questions| Counts::new(name, questions, &[STRAP]);
         Strap { packed: counts("pack", &[5, 13]), unpacked: counts("unpack", &[5, 6]) }
     }
 
@@ -43,7 +41,7 @@ impl Strap {
                  got {got}, message {left:?}\n  message array as expected: {same}"
             )
         });
-        self.packed.add(CODE, answer.err().unwrap_or(0));
+        self.packed.add(STRAP, answer.err().unwrap_or(0));
         report.cases += 1;
         answer
     }
@@ -60,7 +58,7 @@ impl Strap {
         report.require(got == due && same, || {
             format!("unpack {given:?}\n  expected {due}\n  got {got}\n  message array as given: {same}")
         });
-        self.unpacked.add(CODE, answer.err().unwrap_or(0));
+        self.unpacked.add(STRAP, answer.err().unwrap_or(0));
         report.cases += 1;
         answer
     }
@@ -88,7 +86,7 @@ impl Strap {
 
     /// Every message of the strap's code is unpacked. What was unpacked is packed again.
     pub fn every_message(&mut self, report: &mut Report, random: &mut Random) {
-        let (q, m) = CODE;
+        let (q, m) = STRAP;
         for number in 0..model::message_count(q, m) {
             let message = model::symbols_of(q, LENGTH, number);
             let record = self.unpack(report, &message).expect("a sound message is unpacked");
@@ -102,7 +100,7 @@ impl Strap {
     pub fn every_byte(&mut self, report: &mut Report, random: &mut Random) {
         for place in 0..LENGTH {
             for byte in 0..=u8::MAX {
-                let mut message = random.symbols(SYMBOLS.into(), LENGTH);
+                let mut message = random.symbols(STRAP.0, LENGTH);
                 message[place] = byte;
                 let _ = self.unpack(report, &message);
             }
@@ -118,9 +116,9 @@ impl Strap {
                     let _ = self.pack(report, &random.bytes(length), Record { rate, zone });
                 }
             }
-            let _ = self.unpack(report, &random.symbols(SYMBOLS.into(), length));
+            let _ = self.unpack(report, &random.symbols(STRAP.0, length));
             for place in 0..length {
-                let mut message = random.symbols(SYMBOLS.into(), length);
+                let mut message = random.symbols(STRAP.0, length);
                 message[place] = random.pick(&[4, 5, 7, 8, 128, 255]);
                 let _ = self.unpack(report, &message);
             }

@@ -1,10 +1,10 @@
 //! The second implementation of pack and unpack. A rate is taken apart by subtraction, and found again by a search
 //! among all rates.
 
-use crate::model::yes;
+use common::questions::{all_below, is_message_size, yes};
 
-/// The symbols of the strap's code, and the length of its messages.
-pub const SYMBOLS: u8 = 4;
+/// The strap's code, as (q, m), and the length of its messages.
+pub const STRAP: (u32, u32) = (4, 4);
 pub const LENGTH: usize = 5;
 
 pub type Message = [u8; LENGTH];
@@ -33,16 +33,16 @@ fn coefficients(rate: u8) -> [u8; 4] {
 
 /// The message, or the number of the first question answered no: 5, 13.
 pub fn pack(message_len: usize, record: Record) -> Result<Message, u32> {
-    yes(message_len == LENGTH, 5)?;
-    yes(record.zone < SYMBOLS, 13)?;
+    yes(is_message_size(STRAP.1, message_len), 5)?;
+    yes(record.zone <= 3, 13)?;
     let [first, second, third, fourth] = coefficients(record.rate);
     Ok([record.zone, first, second, third, fourth])
 }
 
 /// The record, or the number of the first question answered no: 5, 6.
 pub fn unpack(message: &[u8]) -> Result<Record, u32> {
-    yes(message.len() == LENGTH, 5)?;
-    yes(message.iter().all(|&symbol| symbol < SYMBOLS), 6)?;
+    yes(is_message_size(STRAP.1, message.len()), 5)?;
+    yes(all_below(STRAP.0, message), 6)?;
     let rate = (0..=u8::MAX).find(|&rate| coefficients(rate) == message[1..]);
     Ok(Record { rate: rate.expect("every four symbols are a rate"), zone: message[0] })
 }

@@ -2,14 +2,16 @@
 //! between. The strap's words are turned by one number and damaged. What "Whole sessions" says of each slot is checked
 //! on what the proved code answered, besides the comparison with the model.
 
-use crate::cases::{self, Random};
+use common::questions::CODES;
+use common::random::Random;
+use common::session::{SLOTS, SLOT_MS};
+
+use crate::cases;
 use crate::check::{Counts, Report};
 use crate::model;
-use crate::session_model::{NONE, SLOTS, SLOT_MS};
+use crate::session_model::NONE;
 use crate::sessions::{Call, Sessions, Slices};
-
-/// The code whose session is run to its end.
-const STRAP: (u32, u32) = (4, 4);
+use crate::strap_model::STRAP;
 
 /// What became of a slot of the launch: fewer than a quarter of the symbols altered, read in spite of heavier damage,
 /// or missed or doubtful.
@@ -42,8 +44,7 @@ pub struct Whole {
 
 impl Whole {
     pub fn new() -> Whole {
-        let codes = model::codes();
-        let counts = |name| Counts::new(name, &[], &codes);
+        let counts = |name| Counts::new(name, &[], &CODES);
         Whole {
             light: counts("slots with fewer than a quarter altered"),
             heavy: counts("slots read in spite of heavier damage"),
@@ -55,14 +56,14 @@ impl Whole {
 
     /// Lists of so many slots in every code.
     pub fn lists(&mut self, sessions: &mut Sessions, report: &mut Report, random: &mut Random, lists: u32, slots: u32) {
-        for code in model::codes() {
+        for code in CODES {
             for _ in 0..lists {
                 self.list(sessions, report, random, code, slots);
             }
         }
     }
 
-    /// A full session; after it every call is refused with 4, again and again.
+    /// A full session of the strap's code; after it every call is refused with 4, again and again.
     pub fn full(&mut self, sessions: &mut Sessions, report: &mut Report, random: &mut Random) {
         let mut lists = self.list(sessions, report, random, STRAP, SLOTS);
         for _ in 0..3 {

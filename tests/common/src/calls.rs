@@ -84,6 +84,7 @@ mod raw {
 }
 
 /// The refusal number, or 1,000,000 for a word written.
+#[inline]
 pub fn compare_encode(q: u32, m: u32, message: &[u8], word: &mut [u8]) -> u64 {
     let (length, word_length) = (message.len(), word.len());
     // SAFETY: each pointer and length is that of a slice lent for the call.
@@ -91,6 +92,7 @@ pub fn compare_encode(q: u32, m: u32, message: &[u8], word: &mut [u8]) -> u64 {
 }
 
 /// The refusal number, or 1,000,000 + 1,000 * wrong + margin for a word read.
+#[inline]
 pub fn compare_decode(q: u32, m: u32, message: &mut [u8], word: &[u8]) -> u64 {
     let (length, word_length) = (message.len(), word.len());
     // SAFETY: each pointer and length is that of a slice lent for the call.
@@ -98,6 +100,7 @@ pub fn compare_decode(q: u32, m: u32, message: &mut [u8], word: &[u8]) -> u64 {
 }
 
 /// The C form of encode: the refusal number, or 100 for a word written.
+#[inline]
 pub fn rm_write(q: u32, m: u32, message: &[u8], word: &mut [u8]) -> u32 {
     let (length, word_length) = (message.len(), word.len());
     // SAFETY: each pointer and length is that of a slice lent for the call.
@@ -105,6 +108,7 @@ pub fn rm_write(q: u32, m: u32, message: &[u8], word: &mut [u8]) -> u32 {
 }
 
 /// The C form of decode: the refusal number, or 100 + wrong for a word read.
+#[inline]
 pub fn rm_read(q: u32, m: u32, message: &mut [u8], word: &[u8]) -> u32 {
     let (length, word_length) = (message.len(), word.len());
     // SAFETY: each pointer and length is that of a slice lent for the call.
@@ -112,18 +116,21 @@ pub fn rm_read(q: u32, m: u32, message: &mut [u8], word: &[u8]) -> u32 {
 }
 
 /// The refusal number, or 100 with the session.
+#[inline]
 pub fn open_sender(q: u32, m: u32, session: &mut [u32]) -> u32 {
     // SAFETY: the pointer and length are those of a slice lent for the call.
     unsafe { raw::compare_open_sender(q, m, session.as_mut_ptr(), session.len()) }
 }
 
 /// The refusal number, or 100 with the session.
+#[inline]
 pub fn open_receiver(q: u32, m: u32, session: &mut [u32]) -> u32 {
     // SAFETY: the pointer and length are those of a slice lent for the call.
     unsafe { raw::compare_open_receiver(q, m, session.as_mut_ptr(), session.len()) }
 }
 
 /// The refusal number, or 100 with the next session.
+#[inline]
 pub fn send(session: &mut [u32], message: &[u8], word: &mut [u8]) -> u32 {
     let (numbers, length, word_length) = (session.len(), message.len(), word.len());
     let (session, word) = (session.as_mut_ptr(), word.as_mut_ptr());
@@ -132,6 +139,7 @@ pub fn send(session: &mut [u32], message: &[u8], word: &mut [u8]) -> u32 {
 }
 
 /// The refusal number, at 9 with the next session, or 100 with the next session and the delivery.
+#[inline]
 pub fn receive(session: &mut [u32], delivery: &mut [u32], message: &mut [u8], word: &[u8]) -> u32 {
     let (numbers, values, length) = (session.len(), delivery.len(), message.len());
     let (session, delivery, message) = (session.as_mut_ptr(), delivery.as_mut_ptr(), message.as_mut_ptr());
@@ -140,12 +148,14 @@ pub fn receive(session: &mut [u32], delivery: &mut [u32], message: &mut [u8], wo
 }
 
 /// The refusal number, or 100 with the next session.
+#[inline]
 pub fn miss(session: &mut [u32]) -> u32 {
     // SAFETY: the pointer and length are those of a slice lent for the call.
     unsafe { raw::compare_miss(session.as_mut_ptr(), session.len()) }
 }
 
 /// The refusal number; or 100 + symbol for sure and 104 for unsure, with both sums in the slice of two.
+#[inline]
 pub fn soft_vote(m: u32, k: u32, re: &[f32], im: &[f32], sums: &mut [f32]) -> u32 {
     let (re_length, im_length, length) = (re.len(), im.len(), sums.len());
     // SAFETY: each pointer and length is that of a slice lent for the call.
@@ -153,6 +163,7 @@ pub fn soft_vote(m: u32, k: u32, re: &[f32], im: &[f32], sums: &mut [f32]) -> u3
 }
 
 /// The refusal number, or 100.
+#[inline]
 pub fn soft_read(m: u32, message: &mut [u8], re: &[f32], im: &[f32]) -> u32 {
     let (length, re_length, im_length) = (message.len(), re.len(), im.len());
     // SAFETY: each pointer and length is that of a slice lent for the call.
@@ -160,12 +171,14 @@ pub fn soft_read(m: u32, message: &mut [u8], re: &[f32], im: &[f32]) -> u32 {
 }
 
 /// The refusal number, or 100.
+#[inline]
 pub fn pack(message: &mut [u8], rate: u8, zone: u8) -> u32 {
     // SAFETY: the pointer and length are those of a slice lent for the call.
     unsafe { raw::compare_pack(message.as_mut_ptr(), message.len(), rate, zone) }
 }
 
 /// The refusal number, or 1,000,000 + 1,000 * rate + zone.
+#[inline]
 pub fn unpack(message: &[u8]) -> u32 {
     // SAFETY: the pointer and length are those of a slice lent for the call.
     unsafe { raw::compare_unpack(message.as_ptr(), message.len()) }

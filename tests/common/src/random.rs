@@ -1,0 +1,55 @@
+//! Random numbers that are the same in every run.
+
+/// A xorshift generator.
+pub struct Random(u64);
+
+impl Random {
+    /// The seed is not 0.
+    pub fn new(seed: u64) -> Random {
+        Random(seed)
+    }
+
+    pub fn next(&mut self) -> u64 {
+        self.0 ^= self.0 << 13;
+        self.0 ^= self.0 >> 7;
+        self.0 ^= self.0 << 17;
+        self.0
+    }
+
+    /// A number below the bound, which is at least 1.
+    pub fn below(&mut self, bound: usize) -> usize {
+        ((self.next() >> 11) % bound as u64) as usize
+    }
+
+    /// True once in so many times.
+    pub fn one_in(&mut self, times: usize) -> bool {
+        self.below(times) == 0
+    }
+
+    /// A number from -1 to 1.
+    pub fn unit(&mut self) -> f32 {
+        (self.next() >> 40) as f32 / (1 << 23) as f32 - 1.0
+    }
+
+    pub fn pick<T: Copy>(&mut self, list: &[T]) -> T {
+        list[self.below(list.len())]
+    }
+
+    pub fn bytes(&mut self, length: usize) -> Vec<u8> {
+        (0..length).map(|_| self.below(256) as u8).collect()
+    }
+
+    pub fn symbols(&mut self, q: u32, length: usize) -> Vec<u8> {
+        (0..length).map(|_| self.below(q as usize) as u8).collect()
+    }
+
+    /// So many of the places, or all where there are fewer.
+    pub fn choose<'a>(&mut self, places: &'a mut [usize], count: usize) -> &'a [usize] {
+        let count = count.min(places.len());
+        for from in 0..count {
+            let other = from + self.below(places.len() - from);
+            places.swap(from, other);
+        }
+        &places[..count]
+    }
+}
