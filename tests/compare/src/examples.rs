@@ -13,7 +13,7 @@ const WRITTEN: [(u32, &str, &str); 4] = [
     (4, "21302", "2312231201300130"),
 ];
 
-/// q, the word, the message that it reads as, wrong, and the margin where the document gives one.
+/// q, the word, the message that it reads as, wrong, and the margin where the example gives one.
 const READ: [(u32, &str, &str, u32, Option<u32>); 8] = [
     (4, "1201120130233023", "11302", 0, Some(8)),
     (4, "1211120130233021", "11302", 2, Some(5)),

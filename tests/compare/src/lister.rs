@@ -1,4 +1,4 @@
-//! A second lister, after the document ("The session list"): bytes in, text out, over the second implementation of
+//! A second lister, after docs/REQUIREMENTS.md ("Session list"): bytes in, text out, over the second implementation of
 //! the receiving session.
 
 use crate::model::Model;

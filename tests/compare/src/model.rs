@@ -1,4 +1,4 @@
-//! The second implementation: straight from the document, slow and plain, sharing nothing with the proved code.
+//! The second implementation: straight from docs/REQUIREMENTS.md, slow and plain, sharing nothing with the proved code.
 //!
 //! A word is read in two ways. `Codebook::search` compares it with the codewords of all messages and looks at no
 //! vote; `read_by_votes` takes the winners of the votes and recounts the distance. Codes with few messages are read

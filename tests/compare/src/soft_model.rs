@@ -2,7 +2,7 @@
 
 use common::questions::{is_message_size, is_variables, is_word_size, yes};
 
-/// The operations that the document uses.
+/// The operations that docs/REQUIREMENTS.md uses.
 pub trait Number: Copy + PartialOrd {
     const ZERO: Self;
     fn add(self, other: Self) -> Self;

@@ -7,7 +7,7 @@ use crate::check::{Counts, Guarded, Report};
 use crate::model;
 use crate::strap_model::{self, Message, Record, LENGTH, STRAP};
 
-/// The document's example of packing ("Words from the lake").
+/// The worked example of packing.
 const EXAMPLE: (Record, Message) = (Record { rate: 141, zone: 1 }, [1, 1, 3, 0, 2]);
 
 /// Messages of every length up to this one are tried.
@@ -63,7 +63,7 @@ impl Strap {
         answer
     }
 
-    /// Packs and unpacks the document's example.
+    /// Packs and unpacks the worked example.
     pub fn example(&mut self, report: &mut Report) {
         let (record, message) = EXAMPLE;
         let packed = self.pack(report, &[0xee; LENGTH], record);
