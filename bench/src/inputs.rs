@@ -45,7 +45,7 @@ fn word(random: &mut Random, q: u32, m: u32, kind: Kind) -> Vec<u8> {
         };
         let mut places: Vec<usize> = (0..n).collect();
         for &place in random.choose(&mut places, altered) {
-            word[place] = (word[place] + 1 + random.below(q as usize - 1) as u8) % q as u8;
+            word[place] = (word[place] + random.error(q)) % q as u8;
         }
         if !matches!(kind, Kind::Doubtful) || is_doubtful(q, m, &word) {
             return word;

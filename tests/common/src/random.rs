@@ -43,6 +43,11 @@ impl Random {
         (0..length).map(|_| self.below(q as usize) as u8).collect()
     }
 
+    /// The error of an altered symbol: what is added to it modulo q, from 1 to q - 1.
+    pub fn error(&mut self, q: u32) -> u8 {
+        1 + self.below(q as usize - 1) as u8
+    }
+
     /// So many of the places, or all where there are fewer.
     pub fn choose<'a>(&mut self, places: &'a mut [usize], count: usize) -> &'a [usize] {
         let count = count.min(places.len());

@@ -151,19 +151,19 @@ pub fn damaged(random: &mut Random, q: u32, message: &[u8], count: usize) -> Vec
         0 => damage_towards(random, q, &mut word, message, count),
         1 => damage_cluster(random, q, &mut word, count),
         2 => {
-            let gap = 1 + random.below(q as usize - 1);
-            damage_spread(random, q, &mut word, count, |_| gap);
+            let error = random.error(q);
+            damage_spread(random, q, &mut word, count, |_| error);
         }
-        _ => damage_spread(random, q, &mut word, count, |random| 1 + random.below(q as usize - 1)),
+        _ => damage_spread(random, q, &mut word, count, |random| random.error(q)),
     }
     word
 }
 
-/// Alters places far apart, each by a gap from 1 to q - 1.
-fn damage_spread(random: &mut Random, q: u32, word: &mut [u8], count: usize, gap: impl Fn(&mut Random) -> usize) {
+/// Alters places far apart, each by an error of its own or all by the same.
+fn damage_spread(random: &mut Random, q: u32, word: &mut [u8], count: usize, error: impl Fn(&mut Random) -> u8) {
     let mut places: Vec<usize> = (0..word.len()).collect();
     for &place in random.choose(&mut places, count) {
-        alter(q, &mut word[place], gap(random));
+        alter(q, &mut word[place], error(random));
     }
 }
 
@@ -172,7 +172,7 @@ fn damage_cluster(random: &mut Random, q: u32, word: &mut [u8], count: usize) {
     let n = word.len();
     let start = random.below(n);
     for place in (start..start + count).map(|place| place % n) {
-        alter(q, &mut word[place], 1 + random.below(q as usize - 1));
+        alter(q, &mut word[place], random.error(q));
     }
 }
 
@@ -183,7 +183,7 @@ fn damage_towards(random: &mut Random, q: u32, word: &mut [u8], message: &[u8], 
         other = random.symbols(q, message.len());
     }
     if other == message {
-        alter(q, &mut other[random.below(message.len())], 1 + random.below(q as usize - 1));
+        alter(q, &mut other[random.below(message.len())], random.error(q));
     }
     let target = model::codeword(q, &other);
     let mut places: Vec<usize> = (0..word.len()).filter(|&i| word[i] != target[i]).collect();
@@ -192,6 +192,6 @@ fn damage_towards(random: &mut Random, q: u32, word: &mut [u8], message: &[u8], 
     }
 }
 
-fn alter(q: u32, symbol: &mut u8, gap: usize) {
-    *symbol = ((usize::from(*symbol) + gap) % q as usize) as u8;
+fn alter(q: u32, symbol: &mut u8, error: u8) {
+    *symbol = (*symbol + error) % q as u8;
 }
