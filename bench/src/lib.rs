@@ -7,6 +7,7 @@ pub mod inputs;
 pub mod lister;
 pub mod passes;
 pub mod plain;
+pub mod plot;
 pub mod processes;
 pub mod safe;
 pub mod soft;

@@ -19,7 +19,7 @@ const RUNS: usize = 200;
 const NAMED: usize = 9;
 
 /// The time of one call: the proved code's first, then those of the others.
-type Times<const C: usize> = [f64; C];
+pub type Times<const C: usize> = [f64; C];
 
 /// How many times as fast the proved code is as another, with two digits, and where.
 struct Ratio {
@@ -42,7 +42,7 @@ impl fmt::Display for Ratio {
 /// The best times of one call in each row, over all sweeps, and over those in the file of this name, which other builds of this
 /// program have left there: how fast code runs depends on where the linker happens to put it, so several layouts are measured.
 fn sweep<R, const C: usize>(name: &str, rows: &[R], passes: impl Fn(&R) -> [Pass<'_>; C]) -> Vec<Times<C>> {
-    let mut best = earlier(name).unwrap_or_else(|| vec![[f64::MAX; C]; rows.len()]);
+    let mut best = kept(name).unwrap_or_else(|| vec![[f64::MAX; C]; rows.len()]);
     for _ in 0..MEASUREMENTS / rows.len() {
         for (row, best) in rows.iter().zip(&mut best) {
             let times = timing::best(ROUNDS, passes(row));
@@ -62,7 +62,7 @@ fn file(name: &str) -> Option<PathBuf> {
 }
 
 /// The times that an earlier build kept.
-fn earlier<const C: usize>(name: &str) -> Option<Vec<Times<C>>> {
+pub fn kept<const C: usize>(name: &str) -> Option<Vec<Times<C>>> {
     let text = fs::read_to_string(file(name)?).ok()?;
     let times = |line: &str| {
         let numbers: Vec<f64> = line.split(' ').map(|time| time.parse().expect("a time")).collect();

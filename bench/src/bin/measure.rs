@@ -1,12 +1,16 @@
-//! The command behind `bench/run`: the agreement, each table, the input of the session list, and the calls to be counted.
+//! The command behind `bench/run`: the agreement, each table, the plot, the input of the session list, and the calls to be counted.
 
 use std::path::Path;
 use std::process::ExitCode;
 
-use bench::{agreement, counting, inputs, tables};
+use bench::{agreement, counting, inputs, plot, tables};
 
 fn number<T: std::str::FromStr>(text: &str) -> Result<T, String> {
     text.parse().map_err(|_| format!("not a number: {text}"))
+}
+
+fn write(file: &str, content: impl AsRef<[u8]>) -> Result<(), String> {
+    std::fs::write(file, content).map_err(|error| format!("{file}: {error}"))
 }
 
 fn run(arguments: &[&str]) -> Result<(), String> {
@@ -16,12 +20,13 @@ fn run(arguments: &[&str]) -> Result<(), String> {
         ["decode"] => tables::decode(),
         ["encode"] => tables::encode(),
         ["soft"] => tables::soft(),
-        ["session", file] => std::fs::write(file, inputs::session()).map_err(|error| format!("{file}: {error}"))?,
+        ["plot", file] => write(file, plot::decode()?)?,
+        ["session", file] => write(file, inputs::session())?,
         ["list", proved, rust, session, nothing] => {
             tables::list(Path::new(proved), Path::new(rust), Path::new(session), Path::new(nothing))?
         }
         ["count", call, q, m, passes] => counting::run(call, number(q)?, number(m)?, number(passes)?)?,
-        _ => return Err(String::from("agreement | inputs | decode | encode | soft | session | list | count")),
+        _ => return Err(String::from("agreement | inputs | decode | encode | soft | plot | session | list | count")),
     }
     Ok(())
 }
