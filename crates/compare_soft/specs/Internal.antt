@@ -1,4 +1,4 @@
--- The soft answers as one number each, for a program that compares them.
+-- The soft answers as one number each, for the comparison with Rust.
 use Prim.Native.Nat.{ℕ, _+_}
 use mathlib.Core.Bool.{cond}
 use mathlib.Core.List.{List, [], _∷_}

@@ -1,4 +1,4 @@
--- The strap's answers as one number each, for a program that compares them.
+-- The strap's answers as one number each, for the comparison with Rust.
 use Prim.Native.Nat.{ℕ, _+_, _*_}
 use Rattle.code_theory.specs.Sum.{at}
 use Rattle.code_theory.specs.Question.{Answer, accepted, refused}

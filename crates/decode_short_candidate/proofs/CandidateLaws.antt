@@ -23,8 +23,8 @@ use Rattle.swar_theory.specs.Internal.{digit}
 use Rattle.swar_lanes.specs.Internal.{offset, laneOf, Lanes, Below, Held, VotesIn}
 use Rattle.swar_lanes.proofs.LaneLaws.{lane-lt, lane-place}
 use Rattle.decode_short_errors.specs.Internal.{plain}
-use Rattle.swar_majority.specs.Internal.{threeOf, sevenOf, fifteenOf}
-use Rattle.decode_short_candidate.specs.Internal.{Rest, Chosen, message, CandidateOf, CandidateOfBoth}
+use Rattle.swar_majority.specs.Internal.{threeOf, sevenOf, fifteenOf, Most}
+use Rattle.decode_short_candidate.specs.Internal.{Rest, message, CandidateOf, CandidateOfBoth}
 use Rattle.decode_short_candidate.proofs.LaneVotes.{held-at, vote-at, openOf, allOf, open-is, all-is}
 use Rattle.decode_short_candidate.proofs.LaneVotes.{open-4-0, open-4-1, open-8-0, open-8-1, open-8-2, open-16-0, open-16-1, open-16-2, open-16-3, all-8, all-halves, all-first}
 
@@ -276,9 +276,9 @@ symbols-are m a c0 c1 c2 c3 c4 s h e e0 e1 e2 e3 e4 (suc (suc (suc (suc (suc (su
 
 -- THE CANDIDATES of words of 4, 8, 16 and 32 places
 pub candidate-4 : (q x d0 d1 a c0 c1 : ℕ) → isAlphabet q ≡ true → Below q x
-    → VotesIn q 0 x d0 → Chosen q 1 (same (digit 4 d0 0)) c0
-    → VotesIn q 1 x d1 → Chosen q 1 (same (digit 4 d1 0)) c1
-    → Chosen q 1 (same (digit 4 x 0)) a
+    → VotesIn q 0 x d0 → Most q 1 (same (digit 4 d0 0)) c0
+    → VotesIn q 1 x d1 → Most q 1 (same (digit 4 d1 0)) c1
+    → Most q 1 (same (digit 4 x 0)) a
     → CandidateOf q 2 x (message a c0 c1 0 0 0)
 candidate-4 q x d0 d1 a c0 c1 al b v0 h0 v1 h1 h w held = record {
   below = let z = alphabet-positive q al in below-6 q a c0 c1 0 0 0 (h .fits) (h0 .fits) (h1 .fits) z z z;
@@ -291,10 +291,10 @@ candidate-4 q x d0 d1 a c0 c1 al b v0 h0 v1 h1 h w held = record {
 }
 
 pub candidate-8 : (q x d0 d1 d2 d a c0 c1 c2 : ℕ) → isAlphabet q ≡ true → Below q x
-    → VotesIn q 0 x d0 → Chosen q 2 (threeOf d0 4 8) c0
-    → VotesIn q 1 x d1 → Chosen q 2 (threeOf d1 2 8) c1
-    → VotesIn q 2 x d2 → Chosen q 2 (threeOf d2 2 4) c2
-    → Rest q x c0 c1 c2 0 d → Chosen q 2 (threeOf d 2 4) a
+    → VotesIn q 0 x d0 → Most q 2 (threeOf d0 4 8) c0
+    → VotesIn q 1 x d1 → Most q 2 (threeOf d1 2 8) c1
+    → VotesIn q 2 x d2 → Most q 2 (threeOf d2 2 4) c2
+    → Rest q x c0 c1 c2 0 d → Most q 2 (threeOf d 2 4) a
     → CandidateOf q 3 x (message a c0 c1 c2 0 0)
 candidate-8 q x d0 d1 d2 d a c0 c1 c2 al b v0 h0 v1 h1 v2 h2 left h w held = record {
   below = let z = alphabet-positive q al in below-6 q a c0 c1 c2 0 0 (h .fits) (h0 .fits) (h1 .fits) (h2 .fits) z z;
@@ -308,11 +308,11 @@ candidate-8 q x d0 d1 d2 d a c0 c1 c2 al b v0 h0 v1 h1 v2 h2 left h w held = rec
 }
 
 pub candidate-16 : (q x d0 d1 d2 d3 d a c0 c1 c2 c3 : ℕ) → isAlphabet q ≡ true → Below q x
-    → VotesIn q 0 x d0 → Chosen q 4 (sevenOf d0 4 8 1) c0
-    → VotesIn q 1 x d1 → Chosen q 4 (sevenOf d1 2 8 1) c1
-    → VotesIn q 2 x d2 → Chosen q 4 (sevenOf d2 2 4 1) c2
-    → VotesIn q 3 x d3 → Chosen q 4 (sevenOf d3 2 4 8) c3
-    → Rest q x c0 c1 c2 c3 d → Chosen q 4 (sevenOf d 2 4 8) a
+    → VotesIn q 0 x d0 → Most q 4 (sevenOf d0 4 8 1) c0
+    → VotesIn q 1 x d1 → Most q 4 (sevenOf d1 2 8 1) c1
+    → VotesIn q 2 x d2 → Most q 4 (sevenOf d2 2 4 1) c2
+    → VotesIn q 3 x d3 → Most q 4 (sevenOf d3 2 4 8) c3
+    → Rest q x c0 c1 c2 c3 d → Most q 4 (sevenOf d 2 4 8) a
     → CandidateOf q 4 x (message a c0 c1 c2 c3 0)
 candidate-16 q x d0 d1 d2 d3 d a c0 c1 c2 c3 al b v0 h0 v1 h1 v2 h2 v3 h3 left h w held = record {
   below = below-6 q a c0 c1 c2 c3 0 (h .fits) (h0 .fits) (h1 .fits) (h2 .fits) (h3 .fits) (alphabet-positive q al);
@@ -327,12 +327,12 @@ candidate-16 q x d0 d1 d2 d3 d a c0 c1 c2 c3 al b v0 h0 v1 h1 v2 h2 v3 h3 left h
 }
 
 pub candidate-32 : (q x y d0 e0 d1 e1 d2 e2 d3 e3 d4 d a c0 c1 c2 c3 c4 : ℕ) → isAlphabet q ≡ true → Below q x → Below q y
-    → VotesIn q 0 x d0 → VotesIn q 0 y e0 → Chosen q 8 (fifteenOf d0 e0 4 8 1) c0
-    → VotesIn q 1 x d1 → VotesIn q 1 y e1 → Chosen q 8 (fifteenOf d1 e1 2 8 1) c1
-    → VotesIn q 2 x d2 → VotesIn q 2 y e2 → Chosen q 8 (fifteenOf d2 e2 2 4 1) c2
-    → VotesIn q 3 x d3 → VotesIn q 3 y e3 → Chosen q 8 (fifteenOf d3 e3 2 4 8) c3
-    → Lanes d4 (λ t. subMod q (digit 4 y t) (digit 4 x t)) → Chosen q 8 (fifteenOf d4 (d4 / 2 ^ 4) 2 4 8) c4
-    → Rest q x c0 c1 c2 c3 d → Chosen q 8 (fifteenOf d (d / 2 ^ 4) 2 4 8) a
+    → VotesIn q 0 x d0 → VotesIn q 0 y e0 → Most q 8 (fifteenOf d0 e0 4 8 1) c0
+    → VotesIn q 1 x d1 → VotesIn q 1 y e1 → Most q 8 (fifteenOf d1 e1 2 8 1) c1
+    → VotesIn q 2 x d2 → VotesIn q 2 y e2 → Most q 8 (fifteenOf d2 e2 2 4 1) c2
+    → VotesIn q 3 x d3 → VotesIn q 3 y e3 → Most q 8 (fifteenOf d3 e3 2 4 8) c3
+    → Lanes d4 (λ t. subMod q (digit 4 y t) (digit 4 x t)) → Most q 8 (fifteenOf d4 (d4 / 2 ^ 4) 2 4 8) c4
+    → Rest q x c0 c1 c2 c3 d → Most q 8 (fifteenOf d (d / 2 ^ 4) 2 4 8) a
     → CandidateOfBoth q 5 x y (message a c0 c1 c2 c3 c4)
 candidate-32 q x y d0 e0 d1 e1 d2 e2 d3 e3 d4 d a c0 c1 c2 c3 c4 al b b′ v0 u0 h0 v1 u1 h1 v2 u2 h2 v3 u3 h3 v4 h4 left h w held held′ = record {
   below = below-6 q a c0 c1 c2 c3 c4 (h .fits) (h0 .fits) (h1 .fits) (h2 .fits) (h3 .fits) (h4 .fits);

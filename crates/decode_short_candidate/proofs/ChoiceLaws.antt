@@ -19,7 +19,7 @@ use Rattle.swar_theory.specs.Internal.{digit}
 use Rattle.swar_lanes.specs.Internal.{offset, Lanes, laneBit}
 use Rattle.decode_short_errors.specs.Internal.{plain}
 use Rattle.swar_majority.specs.Internal.{Most}
-use Rattle.decode_short_candidate.specs.Internal.{Rest, Chosen}
+use Rattle.decode_short_candidate.specs.Internal.{Rest}
 
 -- the lanes of the word minus those of the code
 pub rest-is : (q x c0 c1 c2 c3 code d : ℕ) → Lanes code (λ t. plain q c0 c1 c2 c3 (offset t))
@@ -33,9 +33,9 @@ mask-le q al = alphabet-positive q al
 pub symbol-is : (q x : ℕ) → isAlphabet q ≡ true → bitAnd x (q - 1) ≡ x % q
 symbol-is q x al = mask-mod q x (alphabet q al)
 
--- THE SYMBOL that most lanes have
-pub chosen-most : (q n : ℕ) (f : ℕ → ℕ) (x r : ℕ) → isAlphabet q ≡ true → Most n f x → r ≡ x % q → Chosen q n f r
-chosen-most q n f x r al most e = record {
+-- THE SYMBOL that most lanes have is the remainder of the value that most have
+pub most-mod : (q n : ℕ) (f : ℕ → ℕ) (x r : ℕ) → isAlphabet q ≡ true → Most 8 n f x → r ≡ x % q → Most q n f r
+most-mod q n f x r al most e = record {
   fits = omega (arith, e, mod-lt x {m = q} (alphabet-positive q al));
   is = λ v l k. e ∙ ap (λ z. z % q) (most .is v (omega (arith, l, alphabet-bounds q (alphabet q al))) k) ∙ mod-eq-of-lt l;
 }
@@ -57,15 +57,15 @@ same-is a b l = go (ℕ-discrete a b)
     go (no d) = absurd (omega (arith, same-ne a b d))
 
 -- the symbol of lane 0 alone
-pub chosen-one : (q x r : ℕ) → isAlphabet q ≡ true → r ≡ x % q → Chosen q 1 (same (digit 4 x 0)) r
-chosen-one q x r al e = record {
+pub most-one : (q x r : ℕ) → isAlphabet q ≡ true → r ≡ x % q → Most q 1 (same (digit 4 x 0)) r
+most-one q x r al e = record {
   fits = omega (arith, e, mod-lt x {m = q} (alphabet-positive q al));
   is = λ v l k. e ∙ low-lane q x (alphabet q al) ∙ ap (λ z. z % q) (same-is (digit 4 x 0) v k) ∙ mod-eq-of-lt l;
 }
 
--- a symbol is chosen by any function that counts the same lanes
-pub chosen-by : (q n : ℕ) (f g : ℕ → ℕ) (r : ℕ) → f ≡ g → Chosen q n f r → Chosen q n g r
-chosen-by q n f g r e h = rw e at h
+-- whatever counts the same lanes finds the same symbol
+pub most-by : (q n : ℕ) (f g : ℕ → ℕ) (r : ℕ) → f ≡ g → Most q n f r → Most q n g r
+most-by q n f g r e h = rw e at h
 
 -- the counts of equal lanes are equal
 pub lanes-same : {A : Type 0} (f : ℕ → ℕ → ℕ → A) {i j k a b c : ℕ} → i ≡ a → j ≡ b → k ≡ c → f i j k ≡ f a b c

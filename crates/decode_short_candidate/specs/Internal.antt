@@ -1,5 +1,5 @@
 -- The candidate of a word in lanes: the only message that can be near it.
-use Prim.Native.Nat.{ℕ, suc, _≤_, _<_}
+use Prim.Native.Nat.{ℕ, suc, _<_}
 use mathlib.Core.Path.{_≡_}
 use mathlib.Core.List.{List, [], _∷_}
 use Rattle.code_theory.specs.Sum.{at}
@@ -14,11 +14,6 @@ use Rattle.decode_short_candidate.specs.declared.Candidate.{Candidate}
 -- the lanes of d are those of x minus the word of four coefficients, modulo q
 abbrev pub Rest : ℕ → ℕ → ℕ → ℕ → ℕ → ℕ → ℕ → Type 0
 Rest q x c0 c1 c2 c3 d = Lanes d (λ t. subMod q (digit 4 x t) (plain q c0 c1 c2 c3 (offset t)))
-
--- r is a symbol, and the one that n lanes or more have, where there is such a symbol; f counts the lanes of a symbol
-pub record Chosen (q n : ℕ) (f : ℕ → ℕ) (r : ℕ) : Type 0 where
-  pub fits : r < q
-  pub is : (v : ℕ) → v < q → n ≤ f v → r ≡ v
 
 -- the message with the constant a and five coefficients; a candidate has 0 for those from m on
 unfoldable pub message : ℕ → ℕ → ℕ → ℕ → ℕ → ℕ → List ℕ

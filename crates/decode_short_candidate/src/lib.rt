@@ -8,8 +8,8 @@ ghost use mathlib.Core.Bool.{true};
 ghost use Prim.Native.Nat.{_%_, _^_, _<_};
 ghost use Rattle.code_theory.specs.Question.{isAlphabet};
 ghost use Rattle.swar_lanes.specs.Internal.{Below, laneBit};
-ghost use Rattle.swar_majority.specs.Internal.{threeOf, sevenOf, fifteenOf};
-ghost use Rattle.decode_short_candidate.specs.Internal.{Rest, Chosen, messageOf, CandidateOf, CandidateOfBoth};
+ghost use Rattle.swar_majority.specs.Internal.{threeOf, sevenOf, fifteenOf, Most};
+ghost use Rattle.decode_short_candidate.specs.Internal.{Rest, messageOf, CandidateOf, CandidateOfBoth};
 
 // The word minus the word of four coefficients, modulo q: the votes for the constant.
 fn rest(q: u64, x: u64, c0: u64, c1: u64, c2: u64, c3: u64) -> u64
@@ -30,7 +30,7 @@ fn symbol(q: u64, x: u64) -> u64
 // The symbol that two or more of three lanes have: those of the places 0, 2^i and 2^j.
 fn three(q: u64, d: u64, i: u32, j: u32) -> u64
     requires { ⌜ (isAlphabet q ≡ true) × (i < 4) × (j < 4) ⌝ }
-    ensures { λ r. ⌜ Chosen q 2 (threeOf d (2 ^ laneBit i) (2 ^ laneBit j)) r ⌝ }
+    ensures { λ r. ⌜ Most q 2 (threeOf d (2 ^ laneBit i) (2 ^ laneBit j)) r ⌝ }
 {
     symbol(q, swar_majority::most_of_3(d, apart(i), apart(j)))
 }
@@ -38,7 +38,7 @@ fn three(q: u64, d: u64, i: u32, j: u32) -> u64
 // The symbol that four or more of seven lanes have: those of the places with none, one or two of the bits i, j and k set.
 fn seven(q: u64, d: u64, i: u32, j: u32, k: u32) -> u64
     requires { ⌜ (isAlphabet q ≡ true) × (i < j) × (j < k) × (k < 4) ⌝ }
-    ensures { λ r. ⌜ Chosen q 4 (sevenOf d (2 ^ laneBit i) (2 ^ laneBit j) (2 ^ laneBit k)) r ⌝ }
+    ensures { λ r. ⌜ Most q 4 (sevenOf d (2 ^ laneBit i) (2 ^ laneBit j) (2 ^ laneBit k)) r ⌝ }
 {
     symbol(q, swar_majority::most_of_7(d, apart(i), apart(j), apart(k)))
 }
@@ -47,7 +47,7 @@ fn seven(q: u64, d: u64, i: u32, j: u32, k: u32) -> u64
 // three bits set.
 fn fifteen(q: u64, d: u64, e: u64, i: u32, j: u32, k: u32) -> u64
     requires { ⌜ (isAlphabet q ≡ true) × (i < j) × (j < k) × (k < 4) ⌝ }
-    ensures { λ r. ⌜ Chosen q 8 (fifteenOf d e (2 ^ laneBit i) (2 ^ laneBit j) (2 ^ laneBit k)) r ⌝ }
+    ensures { λ r. ⌜ Most q 8 (fifteenOf d e (2 ^ laneBit i) (2 ^ laneBit j) (2 ^ laneBit k)) r ⌝ }
 {
     symbol(
         q,

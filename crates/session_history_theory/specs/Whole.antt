@@ -26,9 +26,8 @@ wordOf (some (read word message values)) = some word
 wordOf (some (doubtful word)) = some word
 wordOf (some missed) = none
 
--- "The claim covers each j that both lists have. .. A received word's altered symbols are the places where it differs from the
--- symbol that slot's send wrote there plus t, modulo q; the claim is for 4 × altered < n."
--- Slot j of the strap is x, and slot j of the launch received the word y with so few altered symbols.
+-- The claim is for each j that both lists have, where slot j of the launch received a word with 4 × altered < n: slot j of the strap is x,
+-- and slot j of the launch received the word y with so few altered symbols.
 pub record LightSlot (q m t : ℕ) (strap : List SenderSlot) (launch : List ReceiverSlot) (j : ℕ) (x : SenderSlot) (y : List ℕ) : Type 0 where
   pub sent : getElem? strap j ≡ some x
   pub received : wordOf (getElem? launch j) ≡ some y
@@ -39,7 +38,7 @@ pub record LightSlot (q m t : ℕ) (strap : List SenderSlot) (launch : List Rece
 abbrev pub Accepted : List ReceiverSlot → ℕ → List ℕ → List ℕ → Delivery → Type 0
 Accepted launch j y message delivery = getElem? launch j ≡ some (read y message (deliveryValues delivery))
 
--- "j is 0 or slot j − 1 was missed or doubtful"
+-- j is 0, or slot j − 1 was missed or doubtful
 pub data NoReference (launch : List ReceiverSlot) : ℕ → Type 0 where
   first : NoReference launch 0
   afterMissed : (i : ℕ) → getElem? launch i ≡ some missed → NoReference launch (suc i)
@@ -59,31 +58,30 @@ ZonesAfterRead q m launch =
 
 -- The slots of the strap and of the launch, under the turn t, and the sessions that the two lists end in.
 pub record WholeSessions (q m t : ℕ) (strap : List SenderSlot) (launch : List ReceiverSlot) (sender : Sender) (receiver : Receiver) : Type 0 where
-  -- "Such a receive is accepted,
+  -- Such a receive is accepted;
   pub accepted : (j : ℕ) (x : SenderSlot) (y : List ℕ) → LightSlot q m t strap launch j x y → (message : List ℕ) × (delivery : Delivery) × Accepted launch j y message delivery
-  -- wrong equals altered,
+  -- its wrong equals altered;
   pub wrong : (j : ℕ) (x : SenderSlot) (y : List ℕ) → LightSlot q m t strap launch j x y → (message : List ℕ) (delivery : Delivery) → Accepted launch j y message delivery
       → delivery .wrong ≡ altered q m t (at (x .word)) (at y)
-  -- and places 1 to m of the message buffer equal the sent message's,
+  -- places 1 to m of its message slice are those of the message sent;
   pub coefficients : (j : ℕ) (x : SenderSlot) (y : List ℕ) → LightSlot q m t strap launch j x y → (message : List ℕ) (delivery : Delivery) → Accepted launch j y message delivery
       → (k : ℕ) → k < m → at message (suc k) ≡ at (x .message) (suc k)
-  -- and place 0 too where slot j − 1 was also such a word."
+  -- and so is place 0 where slot j − 1 was such a word too.
   pub place0 : (i : ℕ) (x : SenderSlot) (y : List ℕ) → LightSlot q m t strap launch i x y
       → (x′ : SenderSlot) (y′ : List ℕ) → LightSlot q m t strap launch (suc i) x′ y′ → (message : List ℕ) (delivery : Delivery) → Accepted launch (suc i) y′ message delivery
       → at message 0 ≡ at (x′ .message) 0
-  -- "An accepted receive says there is no zone exactly where j is 0 or slot j − 1 was missed or doubtful;
+  -- An accepted receive says that there is no zone exactly where j is 0 or slot j − 1 was missed or doubtful.
   pub noZone : (j : ℕ) (y message : List ℕ) (delivery : Delivery) → Accepted launch j y message delivery → (delivery .zone ≡ Unknown) ↔ NoReference launch j
-  -- after a slot read in spite of heavier damage, the zone is the one that Receiving gives."
-  -- After every slot read, however damaged:
+  -- After a slot that was read, however damaged, the zone is the one of Receiving.
   pub zone : ZonesAfterRead q m launch
-  -- Receiving: the zone stands in place 0 of the message buffer, and 0 where there is none.
+  -- Receiving: the zone stands in place 0 of the message slice, and 0 where there is none.
   pub zonePlace : (j : ℕ) (y message : List ℕ) (delivery : Delivery) → Accepted launch j y message delivery → at message 0 ≡ zoneSymbol (delivery .zone)
-  -- Receiving: "The answer carries .. time, slot number × 1,024 in ms. A call's slot number is the count of slots used before it."
+  -- Receiving: the answer carries the time of the slot.
   pub time : (j : ℕ) (y message : List ℕ) (delivery : Delivery) → Accepted launch j y message delivery → delivery .time ≡ slotTime j
   -- Every slot read answered a delivery, so the sentences above speak of every accepted receive.
   pub answers : AnswersDeliveries launch
-  -- "Last, no n symbols below q differ in fewer than n/4 places from each of two words whose messages have different coefficients,
-  -- each turned by any number of its own."
+  -- No n symbols below q differ in fewer than n/4 places from each of two words, each turned by any number of its own, whose messages have
+  -- different coefficients.
   pub apart : (a b : List ℕ) → Symbols q (suc m) a → Symbols q (suc m) b → (k : ℕ) → k < m → at a (suc k) ≢ at b (suc k)
       → (u v : ℕ) (y : List ℕ) → Symbols q (2 ^ m) y
       → 4 * altered q m u (at (codeword q m a)) (at y) < 2 ^ m → 4 * altered q m v (at (codeword q m b)) (at y) < 2 ^ m → ⊥

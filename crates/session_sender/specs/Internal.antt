@@ -1,4 +1,4 @@
--- What the steps of a send ask for and leave. No public contract of a session cites these.
+-- What the steps of a send ask for and leave.
 use Prim.Native.Nat.{ℕ, suc, _^_, _≤_, _<_}
 use mathlib.Core.Path.{_≡_}
 use mathlib.Core.Bool.{true}

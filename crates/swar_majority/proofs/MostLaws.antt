@@ -64,14 +64,14 @@ low-three x v h e =
     ∙ sym (low-bits v) ∙ mod-eq-of-lt h
 
 -- a number whose three lowest bits are those of any v that n lanes or more have is that v modulo 8
-most : (n : ℕ) (f : ℕ → ℕ) (x : ℕ) → ((v : ℕ) → n ≤ f v → (j : ℕ) → j < 3 → bit j x ≡ bit j v) → Most n f (bitAnd x 7)
+most : (n : ℕ) (f : ℕ → ℕ) (x : ℕ) → ((v : ℕ) → n ≤ f v → (j : ℕ) → j < 3 → bit j x ≡ bit j v) → Most 8 n f (bitAnd x 7)
 most n f x h = record {
   fits = omega (arith, and-mask x 3);
   is = λ v l k. and-mask x 3 ∙ low-three x v l (h v k);
 }
 
 -- MOST OF THREE lanes: the carry has the bits of a value that two of them have
-pub most-three : {d a b da db x : ℕ} → Down d a da → Down d b db → Carry d da db x → Most 2 (threeOf d a b) (bitAnd x 7)
+pub most-three : {d a b da db x : ℕ} → Down d a da → Down d b db → Carry d da db x → Most 8 2 (threeOf d a b) (bitAnd x 7)
 most-three {d = d} {a = a} {b = b} {x = x} ha hb hx = most 2 (threeOf d a b) x each
   where
     each : (v : ℕ) → 2 ≤ threeOf d a b v → (j : ℕ) → j < 3 → bit j x ≡ bit j v
@@ -82,7 +82,7 @@ most-three {d = d} {a = a} {b = b} {x = x} ha hb hx = most 2 (threeOf d a b) x e
         (λ e. omega (arith, p .set e, hx .high j, ha .moved j, hb .moved j, bit-lt j x))
 
 -- MOST OF SEVEN lanes: fours has the bits of a value that four of them have
-pub most-seven : {d a b c ones twos fours : ℕ} → Counted d a b c ones twos fours → Most 4 (sevenOf d a b c) (bitAnd fours 7)
+pub most-seven : {d a b c ones twos fours : ℕ} → Counted d a b c ones twos fours → Most 8 4 (sevenOf d a b c) (bitAnd fours 7)
 most-seven {d = d} {a = a} {b = b} {c = c} {ones = ones} {twos = twos} {fours = fours} n = most 4 (sevenOf d a b c) fours each
   where
     each : (v : ℕ) → 4 ≤ sevenOf d a b c v → (j : ℕ) → j < 3 → bit j fours ≡ bit j v
@@ -99,7 +99,7 @@ eights hx hy hr j = omega (arith, hx .high j, hy .high j, hr .high j)
 
 -- MOST OF FIFTEEN lanes: the eights of the sum have the bits of a value that eight of them have
 pub most-fifteen : {d e a b c f₁ f₂ f₄ g₁ g₂ g₄ z x y r : ℕ} → Counted d a b c f₁ f₂ f₄ → Counted e a b c g₁ g₂ g₄
-    → Down e (a + b + c) z → Carry f₁ g₁ z x → Carry f₂ g₂ x y → Carry f₄ g₄ y r → Most 8 (fifteenOf d e a b c) (bitAnd r 7)
+    → Down e (a + b + c) z → Carry f₁ g₁ z x → Carry f₂ g₂ x y → Carry f₄ g₄ y r → Most 8 8 (fifteenOf d e a b c) (bitAnd r 7)
 unfolding fifteenOf
 most-fifteen {d = d} {e = e} {a = a} {b = b} {c = c} {r = r} n m hz hx hy hr = most 8 (fifteenOf d e a b c) r each
   where

@@ -19,10 +19,10 @@ sevenOf d a b c v =
 unfoldable pub fifteenOf : ℕ → ℕ → ℕ → ℕ → ℕ → ℕ → ℕ
 fifteenOf d e a b c v = sevenOf d a b c v + sevenOf e a b c v + same (digit 4 e (a + b + c)) v
 
--- r is a value below 8, and the one that n lanes or more have, where there is such a value; f counts the lanes of a value
-pub record Most (n : ℕ) (f : ℕ → ℕ) (r : ℕ) : Type 0 where
-  pub fits : r < 8
-  pub is : (v : ℕ) → v < 8 → n ≤ f v → r ≡ v
+-- r is a value below q, and the one that n lanes or more have, where there is such a value; f counts the lanes of a value
+pub record Most (q n : ℕ) (f : ℕ → ℕ) (r : ℕ) : Type 0 where
+  pub fits : r < q
+  pub is : (v : ℕ) → v < q → n ≤ f v → r ≡ v
 
 -- ---- counts that stand across numbers: the bits i of several numbers are together the count at bit i
 -- at each bit, r has the low bit of the sum of the bits of a, b and c

@@ -51,7 +51,7 @@ fn seven(d: u64, a: u32, b: u32, c: u32) -> Count
 // The value that two or more of the lanes 0, a and b have.
 pub fn most_of_3(d: u64, a: u32, b: u32) -> u64
     requires { ⌜ (a < 16) × (b < 16) ⌝ }
-    ensures { λ r. ⌜ Most 2 (threeOf d a b) r ⌝ }
+    ensures { λ r. ⌜ Most 8 2 (threeOf d a b) r ⌝ }
 {
     carry(d, down(d, a), down(d, b)) & 7
 }
@@ -59,7 +59,7 @@ pub fn most_of_3(d: u64, a: u32, b: u32) -> u64
 // The value that four or more of the seven lanes 0, a, b, a + b, c, c + a and c + b have.
 pub fn most_of_7(d: u64, a: u32, b: u32, c: u32) -> u64
     requires { ⌜ a + b + c < 16 ⌝ }
-    ensures { λ r. ⌜ Most 4 (sevenOf d a b c) r ⌝ }
+    ensures { λ r. ⌜ Most 8 4 (sevenOf d a b c) r ⌝ }
 {
     seven(d, a, b, c).fours & 7
 }
@@ -67,7 +67,7 @@ pub fn most_of_7(d: u64, a: u32, b: u32, c: u32) -> u64
 // The value that eight or more of fifteen lanes have: these seven lanes of d, the same seven of e, and lane a + b + c of e.
 pub fn most_of_15(d: u64, e: u64, a: u32, b: u32, c: u32) -> u64
     requires { ⌜ a + b + c < 16 ⌝ }
-    ensures { λ r. ⌜ Most 8 (fifteenOf d e a b c) r ⌝ }
+    ensures { λ r. ⌜ Most 8 8 (fifteenOf d e a b c) r ⌝ }
 {
     let f = seven(d, a, b, c);
     let g = seven(e, a, b, c);

@@ -4,7 +4,7 @@ use native.Mathlib.Omega.{arith}
 use borrow.Author.Needs.{needs}
 use Rattle.swar_lanes.specs.Internal.{laneBit}
 use Rattle.swar_majority.specs.Internal.{fifteenOf}
-use Rattle.decode_short_candidate.proofs.ChoiceLaws.{chosen-by}
+use Rattle.decode_short_candidate.proofs.ChoiceLaws.{most-by}
 use Rattle.decode_short_candidate.proofs.CandidateLaws.{candidate-32}
 use Rattle.decode_short_candidate.proofs.candidate_32.Statement.{statement}
 use Rattle.decode_short_candidate.proofs.candidate_32.Tie as tie
@@ -93,8 +93,8 @@ returns c =
     (k1 .before .before .votes-in3 .ensures) (k1 .before .votes-in4 .ensures) (k1 .fifteen2 .ensures)
     (k2 .before .before .votes-in5 .ensures) (k2 .before .votes-in6 .ensures) (k2 .fifteen3 .ensures)
     (k3 .before .before .votes-in7 .ensures) (k3 .before .votes-in8 .ensures) (k3 .fifteen4 .ensures)
-    (d .less .ensures) (chosen-by _ _ _ _ _ (ap (λ z. fifteenOf (d .less .result) z 2 4 8) (k4 .before .partners .ensures)) (k4 .fifteen5 .ensures))
-    (left .rest .ensures) (chosen-by _ _ _ _ _ (ap (λ z. fifteenOf (left .rest .result) z 2 4 8) (c .before .partners2 .ensures)) (c .fifteen6 .ensures))
+    (d .less .ensures) (most-by _ _ _ _ _ (ap (λ z. fifteenOf (d .less .result) z 2 4 8) (k4 .before .partners .ensures)) (k4 .fifteen5 .ensures))
+    (left .rest .ensures) (most-by _ _ _ _ _ (ap (λ z. fifteenOf (left .rest .result) z 2 4 8) (c .before .partners2 .ensures)) (c .fifteen6 .ensures))
 
 pub candidate-32-spec : {M : Type 1} → statement M
 candidate-32-spec =

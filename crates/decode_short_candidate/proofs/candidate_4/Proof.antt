@@ -1,7 +1,7 @@
 -- `candidate_4` meets its contract.
 use mathlib.Core.Path.{refl}
 use borrow.Author.Needs.{needs}
-use Rattle.decode_short_candidate.proofs.ChoiceLaws.{chosen-one}
+use Rattle.decode_short_candidate.proofs.ChoiceLaws.{most-one}
 use Rattle.decode_short_candidate.proofs.CandidateLaws.{candidate-4}
 use Rattle.decode_short_candidate.proofs.candidate_4.Statement.{statement}
 use Rattle.decode_short_candidate.proofs.candidate_4.Tie as tie
@@ -31,9 +31,9 @@ returns c =
       refl,
       refl,
       candidate-4 (s .args .q) (s .args .x) _ _ _ _ _ al (s .pre .1)
-          (k0 .before .votes-in .ensures) (chosen-one _ _ _ al (k0 .symbol .ensures))
-          (k1 .before .votes-in2 .ensures) (chosen-one _ _ _ al (k1 .symbol2 .ensures))
-          (chosen-one _ _ _ al (c .symbol3 .ensures)),
+          (k0 .before .votes-in .ensures) (most-one _ _ _ al (k0 .symbol .ensures))
+          (k1 .before .votes-in2 .ensures) (most-one _ _ _ al (k1 .symbol2 .ensures))
+          (most-one _ _ _ al (c .symbol3 .ensures)),
     )
 
 pub candidate-4-spec : {M : Type 1} → statement M

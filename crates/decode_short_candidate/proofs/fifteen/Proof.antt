@@ -1,6 +1,6 @@
 -- `fifteen` meets its contract.
 use Rattle.swar_majority.specs.Internal.{fifteenOf}
-use Rattle.decode_short_candidate.proofs.ChoiceLaws.{chosen-most, lanes-same, chosen-by, lanes-fit}
+use Rattle.decode_short_candidate.proofs.ChoiceLaws.{most-mod, lanes-same, most-by, lanes-fit}
 use borrow.Author.Needs.{needs}
 use Rattle.decode_short_candidate.proofs.fifteen.Statement.{statement}
 use Rattle.decode_short_candidate.proofs.fifteen.Tie as tie
@@ -28,8 +28,8 @@ returns c =
     let a = b .before in
     let s = a .before in
     let f = fifteenOf (s .args .d) (s .args .e) in
-    chosen-by _ _ _ _ _ (lanes-same f (a .apart .ensures .0) (b .apart2 .ensures .0) (d .apart3 .ensures .0))
-    (chosen-most _ _ _ _ _ (s .pre .0) (m .most-of-15 .ensures) (c .symbol .ensures))
+    most-by _ _ _ _ _ (lanes-same f (a .apart .ensures .0) (b .apart2 .ensures .0) (d .apart3 .ensures .0))
+    (most-mod _ _ _ _ _ (s .pre .0) (m .most-of-15 .ensures) (c .symbol .ensures))
 
 pub fifteen-spec : {M : Type 1} → statement M
 fifteen-spec =

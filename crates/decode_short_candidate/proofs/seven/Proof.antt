@@ -1,6 +1,6 @@
 -- `seven` meets its contract.
 use Rattle.swar_majority.specs.Internal.{sevenOf}
-use Rattle.decode_short_candidate.proofs.ChoiceLaws.{chosen-most, lanes-same, chosen-by, lanes-fit}
+use Rattle.decode_short_candidate.proofs.ChoiceLaws.{most-mod, lanes-same, most-by, lanes-fit}
 use borrow.Author.Needs.{needs}
 use Rattle.decode_short_candidate.proofs.seven.Statement.{statement}
 use Rattle.decode_short_candidate.proofs.seven.Tie as tie
@@ -28,8 +28,8 @@ returns c =
     let a = b .before in
     let s = a .before in
     let f = sevenOf (s .args .d) in
-    chosen-by _ _ _ _ _ (lanes-same f (a .apart .ensures .0) (b .apart2 .ensures .0) (d .apart3 .ensures .0))
-    (chosen-most _ _ _ _ _ (s .pre .0) (m .most-of-7 .ensures) (c .symbol .ensures))
+    most-by _ _ _ _ _ (lanes-same f (a .apart .ensures .0) (b .apart2 .ensures .0) (d .apart3 .ensures .0))
+    (most-mod _ _ _ _ _ (s .pre .0) (m .most-of-7 .ensures) (c .symbol .ensures))
 
 pub seven-spec : {M : Type 1} → statement M
 seven-spec =

@@ -1,7 +1,7 @@
 -- `three` meets its contract.
 use mathlib.Core.Path.{ap₂}
 use Rattle.swar_majority.specs.Internal.{threeOf}
-use Rattle.decode_short_candidate.proofs.ChoiceLaws.{chosen-most, chosen-by}
+use Rattle.decode_short_candidate.proofs.ChoiceLaws.{most-mod, most-by}
 use borrow.Author.Needs.{needs}
 use Rattle.decode_short_candidate.proofs.three.Statement.{statement}
 use Rattle.decode_short_candidate.proofs.three.Tie as tie
@@ -25,7 +25,7 @@ returns c =
     let a = b .before in
     let s = a .before in
     let lanes = ap₂ (threeOf (s .args .d)) (a .apart .ensures .0) (b .apart2 .ensures .0) in
-    chosen-by _ _ _ _ _ lanes (chosen-most _ _ _ _ _ (s .pre .0) (m .most-of-3 .ensures) (c .symbol .ensures))
+    most-by _ _ _ _ _ lanes (most-mod _ _ _ _ _ (s .pre .0) (m .most-of-3 .ensures) (c .symbol .ensures))
 
 pub three-spec : {M : Type 1} → statement M
 three-spec =
