@@ -22,7 +22,7 @@ use Rattle.swar_theory.proofs.DigitLaws.{digit-even, digit-odd, digit-down}
 use Rattle.decode_long_tally.proofs.CounterLaws.{units-digit}
 use Rattle.swar_lanes.specs.Internal.{offset, Lanes, Below, Packed, spot, Reach, BallotOf}
 use Rattle.swar_lanes.proofs.SpotLaws.{block-sum, offset-sum, spot-sum}
-use Rattle.decode_long_tally.specs.Internal.{Pairs, Listed, Votes, VotesOf, DifferencesOf}
+use Rattle.decode_long_tally.specs.Internal.{difference, Pairs, Listed, Votes, VotesOf, DifferencesOf}
 
 -- the entry that code reads: two lanes are the byte's low and high half
 byte : (d : ℕ) → bitAnd d 255 ≡ digit 4 d 0 + 16 * digit 4 d 1
@@ -168,7 +168,7 @@ module _ (q m k : ℕ) (x : List ℕ) (v : Votes q m x) (h : k < m) where
 
 -- THE DIFFERENCES of two words, number by number
 unfoldable pub differenceUnits : ℕ → ℕ → List ℕ → List ℕ → ℕ → ℕ
-differenceUnits q f w c n = sum n (λ j. sum 16 (λ t. 256 ^ subMod q (at w (16 * (f + j) + offset t)) (at c (16 * (f + j) + offset t))))
+differenceUnits q f w c n = sum n (λ j. sum 16 (λ t. 256 ^ difference q w c (16 * (f + j) + offset t)))
 
 -- the units of the first n numbers from number f on
 abbrev pub Differing : ℕ → ℕ → List ℕ → List ℕ → ℕ → ℕ → Type 0
@@ -182,23 +182,23 @@ differences-none q f x y = (omega arith, λ w c s p r l. refl)
 pub differences-next : (q f : ℕ) (x y : List ℕ) (n t d u : ℕ) → Differing q f x y n t
     → Lanes d (λ t. subMod q (digit 4 (at x (f + n)) t) (digit 4 (at y (f + n)) t)) → u ≡ sum 16 (λ t. 256 ^ digit 4 d t) → u ≤ 16 * 72057594037927936
     → Differing q f x y (n + 1) (t + u)
-unfolding differenceUnits
+unfolding differenceUnits difference
 differences-next q f x y n t d u (b, e) s g h = (
   omega arith,
   λ w c z p r k.
       ap₂ (λ a b. a + b) (e w c z p r (omega arith)) (g ∙ sum-ext 16 _ _ (λ i j.
       ap (λ a. 256 ^ a) (s i j ∙ ap₂ (subMod q) (p (f + n) (omega arith) i j) (r (f + n) (omega arith) i j))))
-      ∙ sym (sum-next n (λ j. sum 16 (λ t. 256 ^ subMod q (at w (16 * (f + j) + offset t)) (at c (16 * (f + j) + offset t))))),
+      ∙ sym (sum-next n (λ j. sum 16 (λ t. 256 ^ difference q w c (16 * (f + j) + offset t)))),
 )
 
 pub differences-all : (q f : ℕ) (x y : List ℕ) (n i t : ℕ) → i ≡ n → isAlphabet q ≡ true → n ≤ 8 → Differing q f x y i t → DifferencesOf q f x y n t
-unfolding differenceUnits count ifClear
+unfolding differenceUnits difference count ifClear
 differences-all q f x y n i t h a few (b, e) w c s p r k v l =
-    tallied-lanes q n (λ j t. subMod q (at w (16 * (f + j) + offset t)) (at c (16 * (f + j) + offset t))) t few
+    tallied-lanes q n (λ j t. difference q w c (16 * (f + j) + offset t)) t few
     (λ j t. subMod-lt q _ _ (omega (arith, alphabet-bounds q (alphabet q a)))) (e w c s p r (omega arith) ∙ ap (differenceUnits q f w c) h) v l
-    ∙ sum-ext n _ _ (λ j _. offset-sum (λ i. same (subMod q (at w (16 * (f + j) + i)) (at c (16 * (f + j) + i))) v)
-    ∙ sum-ext 16 _ _ (λ i _. ap (λ z. same (subMod q (at w z) (at c z)) v) (places j i)))
-    ∙ sym (block-sum 16 n (λ i. same (subMod q (at w (f * 16 + i)) (at c (f * 16 + i))) v))
+    ∙ sum-ext n _ _ (λ j _. offset-sum (λ i. same (difference q w c (16 * (f + j) + i)) v)
+    ∙ sum-ext 16 _ _ (λ i _. ap (λ z. same (difference q w c z) v) (places j i)))
+    ∙ sym (block-sum 16 n (λ i. same (difference q w c (f * 16 + i)) v))
   where
     places : (j i : ℕ) → 16 * (f + j) + i ≡ f * 16 + (j * 16 + i)
     places j i = omega arith

@@ -66,4 +66,4 @@ TalliesOf q m x t n = (w : List ℕ) → Packed (2 ^ (m - 4)) w x → Tallied q 
 -- the tally r counts the differences between the 16 n symbols of a word from number f on and those of another
 abbrev pub DifferencesOf : ℕ → ℕ → List ℕ → List ℕ → ℕ → ℕ → Type 0
 DifferencesOf q f x y n r =
-    (w c : List ℕ) (s : ℕ) → Packed s w x → Packed s c y → f + n ≤ s → Counts q r (count (n * 16) (λ i. 0) (λ i. subMod q (at w (f * 16 + i)) (at c (f * 16 + i))))
+    (w c : List ℕ) (s : ℕ) → Packed s w x → Packed s c y → f + n ≤ s → Counts q r (count (n * 16) (λ i. 0) (λ i. difference q w c (f * 16 + i)))
