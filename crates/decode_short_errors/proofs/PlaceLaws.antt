@@ -19,7 +19,7 @@ use Rattle.swar_theory.specs.Internal.{digit}
 use Rattle.swar_theory.proofs.DigitLaws.{digit-and, digit-add, add-lt, digit-times, times-lt}
 use Rattle.swar_lanes.specs.Internal.{offset, Lanes, Below}
 use Rattle.swar_lanes.proofs.LaneLaws.{lanes-are, none-lanes, mask-lane, spread-lanes}
-use Rattle.decode_short_lead.specs.Internal.{Mask}
+use Rattle.swar_count.specs.Internal.{Mask}
 use Rattle.decode_short_errors.specs.Internal.{plain, zeroPlaces}
 
 -- a times a mark, 0 or 1, is at most a

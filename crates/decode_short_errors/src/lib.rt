@@ -8,7 +8,7 @@ ghost use Rattle.code_theory.specs.Modular.{subMod};
 ghost use Rattle.code_theory.specs.Question.{isAlphabet};
 ghost use Rattle.swar_theory.specs.Internal.{digit};
 ghost use Rattle.swar_lanes.specs.Internal.{offset, Lanes, Below};
-ghost use Rattle.decode_short_lead.specs.Internal.{Mask};
+ghost use Rattle.swar_count.specs.Internal.{Mask};
 ghost use Rattle.decode_short_errors.specs.Internal.{plain, zeroPlaces};
 
 // The lanes of c, plus a in each lane that is marked, modulo q.
@@ -43,5 +43,5 @@ pub fn right(e: u64, marks: u64) -> u32
     requires { ⌜ Below 8 e × Mask marks × (sum 16 (digit 4 marks) < 15) ⌝ }
     ensures { λ r. ⌜ r ≡ zeroPlaces e marks ⌝ }
 {
-    decode_short_lead::total(decode_short_lead::equal(e, 0, marks))
+    swar_count::total(swar_count::equal(e, 0, marks))
 }

@@ -1,2 +1,1 @@
-pub mod EqualLaws
 pub mod LeadLaws

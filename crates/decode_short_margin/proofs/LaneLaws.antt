@@ -1,11 +1,9 @@
 -- The votes in lanes are those of the places that the lanes hold. Assumes nothing.
 use Prim.Native.Nat.{ℕ, zero, suc, _+_, _*_, _-_, _%_, _^_, _≤_, _<_}
 use mathlib.Core.Path.{_≡_, refl, ap, ap₂, sym, _∙_}
-use mathlib.Core.Bool.{cond}
 use mathlib.Core.List.{List}
 use native.Mathlib.Omega.{arith}
 use native.Mathlib.Nat.{zero-add, zero-div}
-use borrow.Author.Tests.{lt-ltb, le-ltb}
 use Rattle.code_theory.specs.Sum.{sum, tabulate, at}
 use Rattle.code_theory.specs.Index.{bit, ifClear}
 use Rattle.code_theory.specs.Modular.{subMod, same}
@@ -15,16 +13,11 @@ use Rattle.code_theory.proofs.IndexLaws.{bit-low, partner-lt, second-low, secon
 use Rattle.code_theory.proofs.ModularLaws.{subMod-is, same-ne}
 use Rattle.code_theory.proofs.VoteLaws.{votes-ext}
 use Rattle.swar_theory.specs.Internal.{digit}
-use Rattle.swar_lanes.specs.Internal.{offset, laneOf, Lanes, Held, place, VotesWithin}
-use Rattle.swar_lanes.proofs.LaneLaws.{offset-lt, place-lane}
+use Rattle.swar_lanes.specs.Internal.{offset, laneOf, placeOf, placesOf, Lanes, Held, place, VotesWithin}
+use Rattle.swar_lanes.proofs.LaneLaws.{offset-lt, at-lane, first-places, second-places}
 use Rattle.swar_lanes.proofs.SpotLaws.{within-sum, offset-sum}
-use Rattle.decode_short_lead.specs.Internal.{lanesEqual}
-use Rattle.decode_short_margin.specs.Internal.{placeOf, placesOf, bothVotes}
-
--- THE PLACE of lane t is the value of the lane
-pub at-lane : (x t : ℕ) → t < 16 → placeOf x (offset t) ≡ digit 4 x t
-unfolding placeOf
-at-lane x t h = ap (digit 4 x) (place-lane t h)
+use Rattle.swar_count.specs.Internal.{lanesEqual}
+use Rattle.decode_short_margin.specs.Internal.{bothVotes}
 
 -- NO ERRORS: every place of 0 is 0, so no vote is wrong
 no-place : (i : ℕ) → placeOf 0 i ≡ 0
@@ -45,15 +38,6 @@ no-votes q k v hq hv = sum-ext 16 _ (λ i. 0) (λ i l. go i (bit k i)) ∙ sum-c
 pub both-none : (q k f : ℕ) → 0 < q → (v : ℕ) → 1 ≤ v → bothVotes q k f 0 v ≡ votes q 4 k (placeOf f) v
 unfolding bothVotes
 both-none q k f hq v hv = omega (arith, no-votes q k v hq hv)
-
--- THE PLACES OF TWO NUMBERS: the first sixteen are in f, the second in h
-pub first-places : (f h i : ℕ) → i < 16 → placesOf f h i ≡ placeOf f i
-unfolding placesOf
-first-places f h i l = ap (λ z. cond z (placeOf f i) (placeOf h (i - 16))) (lt-ltb i 16 l)
-
-pub second-places : (f h i j : ℕ) → i ≡ 16 + j → placesOf f h i ≡ placeOf h j
-unfolding placesOf
-second-places f h i j e = ap (λ z. cond z (placeOf f i) (placeOf h (i - 16))) (le-ltb i 16 (omega (arith, e))) ∙ ap (placeOf h) (omega (arith, e))
 
 -- for the coefficients 0 to 3 the votes of 32 places are those of each number
 pub votes-both : (q k f h : ℕ) → k < 4 → (v : ℕ) → votes q 5 k (placesOf f h) v ≡ bothVotes q k f h v

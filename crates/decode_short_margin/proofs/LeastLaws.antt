@@ -11,10 +11,10 @@ use Rattle.code_theory.proofs.MarginLaws.{least-ext}
 use Rattle.code_theory.proofs.ErrorLaws.{sumFrom1-ext, maxFrom1-ext, lead-zero}
 use Rattle.code_theory.specs.Internal.{sumFrom1, maxFrom1}
 use Rattle.code_theory.proofs.WordLaws.{bounds}
-use Rattle.swar_lanes.specs.Internal.{Below}
+use Rattle.swar_lanes.specs.Internal.{Below, placeOf, placesOf}
 use Rattle.swar_lanes.proofs.LaneLaws.{none-below}
-use Rattle.decode_short_lead.specs.Internal.{lanesEqual}
-use Rattle.decode_short_margin.specs.Internal.{placeOf, placesOf, bothVotes, leadBy, Errors}
+use Rattle.swar_count.specs.Internal.{lanesEqual}
+use Rattle.decode_short_margin.specs.Internal.{bothVotes, leadBy, Errors}
 use Rattle.decode_short_margin.proofs.LaneLaws.{both-none, votes-both}
 
 pub leadBy-ext : (q half : ℕ) (f g : ℕ → ℕ) → ((v : ℕ) → 1 ≤ v → f v ≡ g v) → leadBy q half f ≡ leadBy q half g

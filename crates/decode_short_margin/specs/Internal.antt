@@ -1,21 +1,11 @@
--- The places of a word in lanes, and their votes.
+-- The votes of the errors in lanes, and the lead among them.
 use Prim.Native.Nat.{ℕ, _+_, _*_, _-_, _≤_, _<_}
 use mathlib.Core.Path.{_≡_}
-use mathlib.Core.Bool.{true, cond}
-use lib.Dec.{ltb}
+use mathlib.Core.Bool.{true}
 use Rattle.code_theory.specs.Vote.{votes}
 use Rattle.code_theory.specs.Question.{isAlphabet}
 use Rattle.code_theory.specs.Internal.{sumFrom1, maxFrom1}
-use Rattle.swar_theory.specs.Internal.{digit}
-use Rattle.swar_lanes.specs.Internal.{laneOf, Below}
-
--- place i of the sixteen that f holds
-unfoldable pub placeOf : ℕ → ℕ → ℕ
-placeOf f i = digit 4 f (laneOf i)
-
--- place i of the 32 that f and h hold
-unfoldable pub placesOf : ℕ → ℕ → ℕ → ℕ
-placesOf f h i = cond (ltb i 16) (placeOf f i) (placeOf h (i - 16))
+use Rattle.swar_lanes.specs.Internal.{Below, placeOf}
 
 -- how many of the votes for coefficient k, below 4, of the places in both numbers are v
 unfoldable pub bothVotes : ℕ → ℕ → ℕ → ℕ → ℕ → ℕ

@@ -21,19 +21,16 @@ use Rattle.code_theory.proofs.CodeLaws.{linear-low}
 use Rattle.code_theory.proofs.QuestionLaws.{alphabet-positive}
 use Rattle.code_theory.proofs.ModularLaws.{subMod-lt}
 use Rattle.code_theory.proofs.ErrorLaws.{error-distance}
-use Rattle.code_theory.specs.Internal.{error}
+use Rattle.code_theory.specs.Internal.{error, WellFormed}
 use Rattle.swar_theory.specs.Internal.{digit}
-use Rattle.swar_lanes.specs.Internal.{offset, laneOf, Lanes, Below, Held}
-use Rattle.code_theory.specs.Internal.{WellFormed}
+use Rattle.swar_lanes.specs.Internal.{offset, laneOf, Lanes, Below, Held, placeOf, placesOf}
 use Rattle.code_theory.proofs.WordLaws.{bounds}
-use Rattle.decode_short_lead.specs.Internal.{Mask}
+use Rattle.swar_count.specs.Internal.{Mask}
 use Rattle.decode_short_errors.specs.Internal.{plain, zeroPlaces}
 use Rattle.decode_short_errors.proofs.PlaceLaws.{mask-is, zeros-le}
 use Rattle.decode_short_candidate.specs.Internal.{message, messageOf, OnlyCandidate, CandidateOf, CandidateOfBoth}
 use Rattle.decode_short_candidate.specs.declared.Candidate.{Candidate}
-use Rattle.decode_short_margin.specs.Internal.{placeOf, placesOf}
-use Rattle.decode_short_margin.proofs.LaneLaws.{at-lane, first-places, second-places}
-use Rattle.swar_lanes.proofs.LaneLaws.{lane-lt, lane-place}
+use Rattle.swar_lanes.proofs.LaneLaws.{lane-lt, lane-place, at-lane, first-places, second-places}
 use Rattle.decode_short_verify.specs.Internal.{Left, Verifies}
 use Rattle.decode_short_verify.proofs.PlaceLaws.{past, left, first-four, first-eight, second-eight}
 

@@ -2,12 +2,12 @@
 use Prim.Native.Nat.{ℕ, suc, _+_, _*_, _-_, _/_, _%_, _^_, _≤_, _<_}
 use mathlib.Core.Path.{_≡_, refl, ap, ap₂, sym, _∙_}
 use mathlib.Core.Logic.{inl, inr}
-use mathlib.Core.Bool.{true}
+use mathlib.Core.Bool.{true, cond}
 use native.Mathlib.Omega.{arith}
 use native.Mathlib.Decide.{decLt}
 use native.Mathlib.Numerals.{add-one}
 use native.Mathlib.Nat.{mod-eq-of-lt}
-use borrow.Author.Tests.{eqb-true}
+use borrow.Author.Tests.{eqb-true, lt-ltb, le-ltb}
 use lib.Dec.{eqb}
 use lib.Pow.{pow-mono}
 use lib.Bits.{bitAnd, and-mask, and-zero-r, and-le-l}
@@ -21,7 +21,7 @@ use Rattle.code_theory.proofs.QuestionLaws.{Alphabet, alphabet, alphabet-bounds
 use Rattle.code_theory.proofs.EveryLaws.{every-at}
 use Rattle.swar_theory.specs.Internal.{digit}
 use Rattle.swar_theory.proofs.DigitLaws.{digit-lt, digit-past, digit-and, digit-add, add-lt, digit-sub, sub-le, digit-times, digit-down}
-use Rattle.swar_lanes.specs.Internal.{laneBit, VotesIn, offset, laneOf, Lanes, Below, ClearLanes, Blend}
+use Rattle.swar_lanes.specs.Internal.{laneBit, VotesIn, offset, laneOf, placeOf, placesOf, Lanes, Below, ClearLanes, Blend}
 
 -- the lanes of a literal, by one computed test
 pub lanes-are : (x : ℕ) (f : ℕ → ℕ) → every 16 (λ t. eqb (digit 4 x t) (f t)) ≡ true → Lanes x f
@@ -213,3 +213,17 @@ lane-place i h = omega arith
 pub place-lane : (t : ℕ) → t < 16 → laneOf (offset t) ≡ t
 unfolding laneOf offset
 place-lane t h = omega arith
+
+-- THE PLACE of lane t is the value of the lane
+pub at-lane : (x t : ℕ) → t < 16 → placeOf x (offset t) ≡ digit 4 x t
+unfolding placeOf
+at-lane x t h = ap (digit 4 x) (place-lane t h)
+
+-- THE PLACES OF TWO NUMBERS: the first sixteen are in f, the second in h
+pub first-places : (f h i : ℕ) → i < 16 → placesOf f h i ≡ placeOf f i
+unfolding placesOf
+first-places f h i l = ap (λ z. cond z (placeOf f i) (placeOf h (i - 16))) (lt-ltb i 16 l)
+
+pub second-places : (f h i j : ℕ) → i ≡ 16 + j → placesOf f h i ≡ placeOf h j
+unfolding placesOf
+second-places f h i j e = ap (λ z. cond z (placeOf f i) (placeOf h (i - 16))) (le-ltb i 16 (omega (arith, e))) ∙ ap (placeOf h) (omega (arith, e))

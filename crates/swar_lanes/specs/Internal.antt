@@ -26,6 +26,14 @@ laneOf i = 2 * (i % 8) + i / 8
 abbrev pub Lanes : ℕ → (ℕ → ℕ) → Type 0
 Lanes d f = (t : ℕ) → t < 16 → digit 4 d t ≡ f t
 
+-- place i of the sixteen that f holds
+unfoldable pub placeOf : ℕ → ℕ → ℕ
+placeOf f i = digit 4 f (laneOf i)
+
+-- place i of the 32 that f and h hold
+unfoldable pub placesOf : ℕ → ℕ → ℕ → ℕ
+placesOf f h i = cond (ltb i 16) (placeOf f i) (placeOf h (i - 16))
+
 -- every lane of x is below q
 abbrev pub Below : ℕ → ℕ → Type 0
 Below q x = (t : ℕ) → t < 16 → digit 4 x t < q

@@ -1,7 +1,7 @@
 -- `lead` meets its contract, for q 2 and for the others.
 use mathlib.Core.Path.{_≡_, _∙_}
 use native.Mathlib.Omega.{arith}
-use Rattle.decode_short_lead.specs.Internal.{lanesEqual}
+use Rattle.swar_count.specs.Internal.{lanesEqual}
 use Rattle.decode_short_lead.proofs.LeadLaws.{one-sum, one-other}
 use Rattle.decode_short_lead.proofs.lead.Statement.{statement}
 use Rattle.decode_short_lead.proofs.lead.Tie as tie

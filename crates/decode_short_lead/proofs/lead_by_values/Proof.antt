@@ -4,7 +4,7 @@ use mathlib.Core.Path.{_≡_, refl}
 use native.Mathlib.Omega.{arith}
 use borrow.Author.Needs.{needs}
 use Rattle.code_theory.specs.Internal.{sumFrom1, maxFrom1}
-use Rattle.decode_short_lead.specs.Internal.{lanesEqual}
+use Rattle.swar_count.specs.Internal.{lanesEqual}
 use Rattle.decode_short_lead.proofs.LeadLaws.{sum-within, step-sum, step-max, step-fits, last-fits, last-is}
 use Rattle.decode_short_lead.proofs.lead_by_values.Statement.{statement}
 use Rattle.decode_short_lead.proofs.lead_by_values.Tie as tie
@@ -20,11 +20,11 @@ loop-holds : tie.Need-loop-holds Inv-loop μ-loop
 unfolding sumFrom1 maxFrom1
 loop-holds c = (omega arith, omega arith, refl, refl)
 
-cast-votes : tie.Need-cast-votes Inv-loop μ-loop
-cast-votes c = search needs
+cast-lanes-equal : tie.Need-cast-lanes-equal Inv-loop μ-loop
+cast-lanes-equal c = search needs
 
-votes-requires : tie.Need-votes-requires Inv-loop μ-loop
-votes-requires c κs =
+lanes-equal-requires : tie.Need-lanes-equal-requires Inv-loop μ-loop
+lanes-equal-requires c κs =
     let s = c .before .before in
     let l = c .before .loop in
     (s .pre .0, omega arith, omega (arith, sum-within (l .v) (s .args .q) (lanesEqual (s .args .x)) (l .inv .0) (omega arith), s .pre .3))
@@ -33,7 +33,7 @@ add-bad : tie.Need-add-bad Inv-loop μ-loop
 add-bad c =
     let s = c .before .before .before in
     let l = c .before .before .loop in
-    let few = step-fits (s .args .q) (l .v) _ _ (lanesEqual (s .args .x)) (l .inv .2) (l .inv .3) _ 15 (l .inv .0) (omega arith) (c .votes .ensures) (s .pre .3) in
+    let few = step-fits (s .args .q) (l .v) _ _ (lanesEqual (s .args .x)) (l .inv .2) (l .inv .3) _ 15 (l .inv .0) (omega arith) (c .lanes-equal .ensures) (s .pre .3) in
     record { fits = omega (arith, few) }
 
 larger-requires : tie.Need-larger-requires Inv-loop μ-loop
@@ -52,8 +52,8 @@ loop-again c =
     let f = lanesEqual (s .args .x) in (
       omega arith,
       omega arith,
-      step-sum (s .args .q) (l .v) _ _ f (l .inv .2) (l .inv .3) _ (l .inv .0) (c .before .votes .ensures),
-      step-max (s .args .q) (l .v) _ _ f (l .inv .2) (l .inv .3) _ _ (l .inv .0) (c .before .votes .ensures) (c .larger .ensures),
+      step-sum (s .args .q) (l .v) _ _ f (l .inv .2) (l .inv .3) _ (l .inv .0) (c .before .lanes-equal .ensures),
+      step-max (s .args .q) (l .v) _ _ f (l .inv .2) (l .inv .3) _ _ (l .inv .0) (c .before .lanes-equal .ensures) (c .larger .ensures),
     )
 
 sub-result : tie.Need-sub-result Inv-loop μ-loop
@@ -81,8 +81,8 @@ lead-by-values-spec =
     Inv-loop
     μ-loop
     loop-holds
-    cast-votes
-    votes-requires
+    cast-lanes-equal
+    lanes-equal-requires
     add-bad
     larger-requires
     add-v

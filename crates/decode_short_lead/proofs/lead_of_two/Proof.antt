@@ -2,7 +2,7 @@
 use mathlib.Core.Path.{ap, _∙_}
 use native.Mathlib.Omega.{arith}
 use Prim.Native.Nat.{_-_}
-use Rattle.decode_short_lead.proofs.EqualLaws.{two-sum}
+use Rattle.swar_count.proofs.EqualLaws.{two-sum}
 use Rattle.decode_short_lead.proofs.lead_of_two.Statement.{statement}
 use Rattle.decode_short_lead.proofs.lead_of_two.Tie as tie
 

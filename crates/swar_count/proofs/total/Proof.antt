@@ -1,8 +1,8 @@
 -- `total` meets its contract: the remainder by 15 is the sum of the lanes.
 use borrow.Author.Needs.{needs}
-use Rattle.decode_short_lead.proofs.EqualLaws.{total-is}
-use Rattle.decode_short_lead.proofs.total.Statement.{statement}
-use Rattle.decode_short_lead.proofs.total.Tie as tie
+use Rattle.swar_count.proofs.EqualLaws.{total-is}
+use Rattle.swar_count.proofs.total.Statement.{statement}
+use Rattle.swar_count.proofs.total.Tie as tie
 
 cast-result : tie.Need-cast-result
 cast-result c = search needs

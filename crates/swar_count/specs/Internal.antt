@@ -1,4 +1,4 @@
--- Counts of the votes in lanes, and masks of lanes.
+-- Lanes that have a value, counted, and masks of lanes.
 use Prim.Native.Nat.{ℕ, _≤_, _<_}
 use Rattle.code_theory.specs.Sum.{sum}
 use Rattle.code_theory.specs.Modular.{same}

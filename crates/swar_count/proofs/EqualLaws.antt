@@ -17,7 +17,7 @@ use Rattle.swar_theory.specs.Internal.{digit, number}
 use Rattle.swar_theory.proofs.DigitLaws.{digit-lt, digit-and, digit-xor, digit-add, digit-sub, number-of}
 use Rattle.swar_lanes.specs.Internal.{Lanes, Below}
 use Rattle.swar_lanes.proofs.LaneLaws.{symbols-le, seven-lanes, full-lanes, one-lanes, spread-lanes}
-use Rattle.decode_short_lead.specs.Internal.{Mask, lanesEqual}
+use Rattle.swar_count.specs.Internal.{Mask, lanesEqual}
 
 -- a shift by three brings the highest bit of a lane to its lowest
 top-bit : (z t : ℕ) → digit 4 (z / 2 ^ 3) t % 2 ≡ digit 4 z t / 8

@@ -1,9 +1,9 @@
 -- `equal` meets its contract: no lane carries into the next.
 use native.Mathlib.Omega.{arith}
 use borrow.Author.Needs.{needs}
-use Rattle.decode_short_lead.proofs.EqualLaws.{xored-le, equal-is}
-use Rattle.decode_short_lead.proofs.equal.Statement.{statement}
-use Rattle.decode_short_lead.proofs.equal.Tie as tie
+use Rattle.swar_count.proofs.EqualLaws.{xored-le, equal-is}
+use Rattle.swar_count.proofs.equal.Statement.{statement}
+use Rattle.swar_count.proofs.equal.Tie as tie
 
 mul-result : tie.Need-mul-result
 mul-result c = search needs
