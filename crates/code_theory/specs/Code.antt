@@ -1,4 +1,4 @@
--- The code RM_q(1, m): the word of a message (HPL-98-195, section 2.1).
+-- The code RM_q(1, m): the word of a message (docs/REQUIREMENTS.md: Word; HPL-98-195, section 2.1).
 use Prim.Native.Nat.{ℕ, suc, _+_, _*_, _%_, _^_, _<_}
 use mathlib.Core.Path.{_≡_}
 use mathlib.Core.List.{List}

@@ -1,4 +1,4 @@
--- By how much the symbols of a message win their votes.
+-- By how much the symbols of a message win their votes (docs/REQUIREMENTS.md: Margin).
 use Prim.Native.Nat.{ℕ, zero, suc, _-_, min, max}
 use Rattle.code_theory.specs.Index.{ifClear}
 use Rattle.code_theory.specs.Modular.{same}

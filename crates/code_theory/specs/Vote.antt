@@ -1,11 +1,11 @@
--- The votes for the symbols of a message (HPL-98-195, definition 1).
+-- The votes for the symbols of a message (docs/REQUIREMENTS.md: Votes; HPL-98-195, definition 1).
 use Prim.Native.Nat.{ℕ, zero, suc, _+_, _^_}
 use Rattle.code_theory.specs.Sum.{sum}
 use Rattle.code_theory.specs.Index.{bit, ifClear}
 use Rattle.code_theory.specs.Modular.{subMod, same}
 use Rattle.code_theory.specs.Code.{linear}
 
--- how many of the votes given 0 to given (n - 1) are for v, those of the places that are not closed
+-- how many of the places 0 to n - 1 give a vote for v: place i gives the vote given i where closed i is 0, and none where it is 1
 unfoldable pub count : ℕ → (ℕ → ℕ) → (ℕ → ℕ) → ℕ → ℕ
 count n closed given v = sum n (λ i. ifClear (closed i) (same (given i) v))
 

@@ -1,4 +1,4 @@
--- What `write` requires, and what it ensures.
+-- A message and a buffer for its word, and the steps by which the word is written.
 use Prim.Native.Nat.{ℕ, suc, _^_, _+_, _≤_, _<_, _%_}
 use mathlib.Core.Path.{_≡_}
 use mathlib.Core.List.{List}

@@ -28,9 +28,11 @@ sender last used = record { q = 4; m = 4; last = last; used = used }
 abbrev pub receiver : Reference → ℕ → Receiver
 receiver reference used = record { q = 4; m = 4; reference = reference; used = used }
 
+-- the two sums of a soft vote
 abbrev pub sums : ℤ → ℤ → Complex ℤ
 sums re im = record { re = re; im = im }
 
+-- the examples
 abbrev pub examples : List Case
 examples =
     writes 4 4 message word

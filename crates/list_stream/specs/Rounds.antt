@@ -1,4 +1,4 @@
--- One round of the program: what is fed, what is written and what comes next, for each answer of a read.
+-- One round of the program session_list: what is fed, what is written and what comes next, for each answer of a read.
 use Prim.Native.Nat.{ℕ, zero, suc, _+_, _≤_}
 use mathlib.Core.Path.{_≡_}
 use mathlib.Core.List.{List, []}

@@ -1,4 +1,5 @@
--- The listing of an input that comes in chunks: text_chunks has it for any reader of lines, here is the reader of the session list.
+-- The session list (docs/REQUIREMENTS.md) of an input that comes in chunks: text_chunks has it for any reader of lines, and here is the
+-- reader of the session list.
 use Prim.Native.Nat.{ℕ, _≤_}
 use mathlib.Core.Path.{_≡_}
 use mathlib.Core.List.{List, []}

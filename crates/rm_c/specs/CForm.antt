@@ -1,4 +1,4 @@
--- The numbers of the C form: the refusal, or 100 for a word written and 100 + wrong for a word read.
+-- The numbers that the calls from C answer (docs/REQUIREMENTS.md: C form).
 use Prim.Native.Nat.{ℕ, _+_}
 use mathlib.Core.List.{List}
 use Rattle.code_theory.specs.Question.{after}
@@ -9,8 +9,10 @@ use Rattle.codec.specs.Codec.{encodeRefusal, decodeRefusal}
 unfoldable pub numbered : ℕ → ℕ → ℕ
 numbered n v = after n v n
 
+-- the number of Write: the refusal, or 100 for a word written
 unfoldable pub writeNumber : ℕ → ℕ → List ℕ → List ℕ → ℕ
 writeNumber q m message word = numbered (encodeRefusal q m message word) 100
 
+-- the number of Read: the refusal, or 100 + wrong for a word read
 unfoldable pub readNumber : ℕ → ℕ → List ℕ → List ℕ → ℕ
 readNumber q m message word = numbered (decodeRefusal q m message word) (100 + nearDistance q m word)

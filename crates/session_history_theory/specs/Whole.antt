@@ -26,8 +26,8 @@ wordOf (some (read word message values)) = some word
 wordOf (some (doubtful word)) = some word
 wordOf (some missed) = none
 
--- The claim is for each j that both lists have, where slot j of the launch received a word with 4 × altered < n: slot j of the strap is x,
--- and slot j of the launch received the word y with so few altered symbols.
+-- What the claim is for: a j that both lists have, where slot j of the strap is x and slot j of the launch received the word y, with
+-- 4 × altered < n.
 pub record LightSlot (q m t : ℕ) (strap : List SenderSlot) (launch : List ReceiverSlot) (j : ℕ) (x : SenderSlot) (y : List ℕ) : Type 0 where
   pub sent : getElem? strap j ≡ some x
   pub received : wordOf (getElem? launch j) ≡ some y
@@ -85,7 +85,7 @@ pub record WholeSessions (q m t : ℕ) (strap : List SenderSlot) (launch : List 
   pub apart : (a b : List ℕ) → Symbols q (suc m) a → Symbols q (suc m) b → (k : ℕ) → k < m → at a (suc k) ≢ at b (suc k)
       → (u v : ℕ) (y : List ℕ) → Symbols q (2 ^ m) y
       → 4 * altered q m u (at (codeword q m a)) (at y) < 2 ^ m → 4 * altered q m v (at (codeword q m b)) (at y) < 2 ^ m → ⊥
-  -- A refused call makes no slot; and no session refuses its way around the claim. What a list reaches from its opening is sound,
+  -- A refused call makes no slot. So that the claim is not kept by refusing, the session that a list reaches from its opening is sound,
   pub senderSound : soundSender sender ≡ true
   pub receiverSound : soundReceiver receiver ≡ true
   -- for the q and m that it was opened for,

@@ -1,4 +1,4 @@
--- What the helpers promise to each other.
+-- The questions of both calls in parts, and what is decided of a word on the way.
 use mathlib.Core.Path.{_≡_}
 use Prim.Native.Nat.{ℕ, suc, _^_, _<_}
 use mathlib.Core.Bool.{Bool, _&&_}

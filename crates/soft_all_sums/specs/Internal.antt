@@ -1,4 +1,4 @@
--- What the helpers promise to each other, and all sums to the soft read.
+-- Rows of terms, and the sums of several coefficients on the way to those of all.
 use mathlib.Core.Path.{_≡_}
 use Prim.Native.Nat.{ℕ, zero, suc, _+_, _*_, _≤_, _<_}
 use mathlib.Core.List.{List, [], _∷_}

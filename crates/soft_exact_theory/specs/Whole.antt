@@ -1,4 +1,4 @@
--- Floats that are whole numbers, and what the exactness theorems say.
+-- Floats that are whole numbers, for the theorems about them (docs/REQUIREMENTS.md: Exact sums).
 use mathlib.Core.Path.{_≡_}
 use Prim.Native.Nat.{ℕ, _≤_, _<_}
 use mathlib.Core.Bool.{Bool, true, false}

@@ -1,9 +1,10 @@
--- Samples, the terms of a vote and their sums: complex numbers.
+-- Samples, the terms of a vote and their sums (docs/REQUIREMENTS.md: Soft samples, Soft sums).
 use Prim.Native.Nat.{ℕ, zero, suc}
 use mathlib.Core.List.{List}
 use lib.ListN.{getD}
 use Rattle.soft_theory.specs.Numbers.{Numbers}
 
+-- a complex number: a sample, a term, or the two sums of a vote
 pub record Complex (A : Type 0) : Type 0 where
   pub re : A
   pub im : A

@@ -1,4 +1,4 @@
--- The decision for one symbol by its two sums (Feldman, Abou-Faycal and Frigo, with their tangent 2/3).
+-- The decision for one symbol by its two sums (docs/REQUIREMENTS.md: Soft decision; the tangent 2/3 of Feldman, Abou-Faycal and Frigo).
 use Prim.Native.Nat.{ℕ}
 use mathlib.Core.Bool.{Bool, true, false, cond, _&&_}
 use Rattle.soft_theory.specs.Numbers.{Numbers}
@@ -10,6 +10,7 @@ pub data Decision (A : Type 0) : Type 0 where
   unsure : Complex A → Decision A
   refused : ℕ → Decision A
 
+-- x without its sign
 unfoldable pub magnitude : {A : Type 0} → Numbers A → A → A
 magnitude N x = cond (N .lt x (N .number 0)) (N .neg x) x
 
@@ -25,6 +26,7 @@ decideBy N l s a b z = cond (isDecisive N (magnitude N l) (magnitude N s)) (sure
 unfoldable pub decide : {A : Type 0} → Numbers A → Complex A → Decision A
 decide N z = cond (N .lt (magnitude N (z .re)) (magnitude N (z .im))) (decideBy N (z .im) (z .re) 1 3 z) (decideBy N (z .re) (z .im) 0 2 z)
 
+-- whether a decision is sure
 unfoldable pub isSure : {A : Type 0} → Decision A → Bool
 isSure (sure s z) = true
 isSure (unsure z) = false

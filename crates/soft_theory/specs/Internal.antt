@@ -1,4 +1,4 @@
--- What serves the proofs and the code of the sums; no contract of a call and no theorem names it.
+-- The sums of some of the votes for a coefficient.
 use Prim.Native.Nat.{ℕ, _+_, _^_}
 use Rattle.code_theory.specs.Internal.{nthClear}
 use Rattle.soft_theory.specs.Numbers.{Numbers}

@@ -1,4 +1,4 @@
--- What a reader must believe, in reading order; Internal only serves the code.
+-- What a reader must believe, in reading order; Internal only serves the code and the proofs.
 pub mod Numbers
 pub mod Complex
 pub mod Decision

@@ -33,10 +33,11 @@ decision N m y (suc k) = decide N (voteSums N m k y)
 unfoldable pub softMessage : {A : Type 0} → Numbers A → ℕ → (ℕ → Complex A) → List ℕ
 softMessage N m y = tabulate (suc m) (λ k. symbol (decision N m y k))
 
--- 10: does every part lie from -127 to 127?
+-- whether a part of a sample lies from -127 to 127
 unfoldable pub inRange : {A : Type 0} → Numbers A → A → Bool
 inRange N x = N .le (N .neg (N .number 127)) x && N .le x (N .number 127)
 
+-- 10: does every part lie from -127 to 127?
 unfoldable pub allInRange : {A : Type 0} → Numbers A → List A → Bool
 allInRange N x = every (length x) (λ i. inRange N (getD x i (N .number 0)))
 

@@ -1,4 +1,4 @@
--- Two floats as one complex number.
+-- The two sums of a vote, as the code keeps them (docs/REQUIREMENTS.md: Soft sums).
 use lib.Ieee.{Float}
 use Rattle.soft_theory.specs.Complex.{Complex}
 use Rattle.soft_vote_sums.specs.declared.Sums.{Sums}

@@ -91,7 +91,7 @@ fifteen f p e l = omega arith
 pub total-is : (p : ℕ) → p < 18446744073709551616 → sum 16 (digit 4 p) < 15 → p % 15 ≡ sum 16 (digit 4 p)
 total-is p h l = fifteen (digit 4 p) p (number-of 4 16 p h) l
 
--- THE VOTES for v: with 1 in every lane of the mask, every lane that is v is counted
+-- THE LANES THAT ARE v: with 1 in every lane of the mask, each of them is counted
 pub every-lane : Mask 0x1111_1111_1111_1111
 every-lane t h = omega (arith, one-lanes t h)
 
@@ -99,7 +99,7 @@ pub equal-sum : (x v r : ℕ) → Lanes r (λ t. digit 4 0x1111_1111_1111_1111 t
 unfolding lanesEqual
 equal-sum x v r l = sum-ext 16 _ _ (λ t h. l t h ∙ ap (λ c. c * same (digit 4 x t) v) (one-lanes t h) ∙ one-mul (same (digit 4 x t) v))
 
--- where no lane is above 1, the sum of the lanes is the number of votes for 1
+-- where no lane is above 1, the sum of the lanes is the number of those that are 1
 pub two-sum : (x : ℕ) → Below 2 x → sum 16 (digit 4 x) ≡ lanesEqual x 1
 unfolding lanesEqual same
 two-sum x b = sum-ext 16 _ _ (λ t h. go (digit 4 x t) (b t h))

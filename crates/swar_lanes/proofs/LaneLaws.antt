@@ -1,4 +1,4 @@
--- The lanes of constants, blends and differences. Assumes nothing.
+-- The lanes of constants, blends and differences, and the places that lanes hold. Assumes nothing.
 use Prim.Native.Nat.{ℕ, suc, _+_, _*_, _-_, _/_, _%_, _^_, _≤_, _<_}
 use mathlib.Core.Path.{_≡_, refl, ap, ap₂, sym, _∙_}
 use mathlib.Core.Logic.{inl, inr}

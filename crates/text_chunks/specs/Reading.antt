@@ -16,6 +16,7 @@ unfoldable pub afterFailure : ℤ → Next
 afterFailure (pos e) = cond (eqb e 4) Read Failed
 afterFailure (negsuc e) = Failed
 
--- what comes after the bytes before this place of a chunk, by whether the reading has ended: the next read behind the chunk's end
+-- what comes after the bytes before this place of a chunk: the end where the reading is over, another read where the chunk ends there, and
+-- else the rest of the chunk
 unfoldable pub afterPart : Bool → ℕ → ℕ → Next
 afterPart over place end = cond over End (cond (eqb place end) Read (Rest place))

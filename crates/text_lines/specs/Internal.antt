@@ -1,4 +1,4 @@
--- What the code finds in a line, and where a line ends. The output does not rest on it.
+-- What the code finds in a line, and where a line ends.
 use Prim.Native.Nat.{ℕ}
 use mathlib.Core.Bool.{Bool, _&&_}
 use mathlib.Core.List.{List}
