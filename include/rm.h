@@ -2,8 +2,8 @@
  * rm.h: first-order generalised Reed-Muller words over the symbols 0 to q - 1.
  *
  * q is 2, 4 or 8 and m is 2 to 8. A message is m + 1 symbols: the constant a, then the coefficients a_0 to
- * a_(m - 1). A word is n = 2^m symbols, 4 to 256. A symbol is one byte. Symbol i of a message's word is a plus every
- * a_k for which bit k of i is 1, modulo q; bit 0 is the lowest.
+ * a_(m - 1). A word is n = 2^m symbols, 4 to 256. A symbol is one byte. Symbol i of a message's word is the constant
+ * plus the coefficients a_k of the bits k that are set in i, modulo q; bit k is the one of value 2^k.
  *
  * Buffers. The caller owns both and lends them for the call. Lengths are in bytes: message_len must be m + 1 and
  * word_len 2^m; any other length is refused by its number. Each pointer must be good for its length; NULL with

@@ -10,14 +10,13 @@ use native.Mathlib.Omega.{arith}
 use lib.Seq.{ext-getD}
 use borrow.Author.Tests.{ltb-true, lt-ltb}
 use Rattle.code_theory.specs.Sum.{tabulate, at}
-use Rattle.code_theory.specs.Code.{Symbols}
+use Rattle.code_theory.specs.Code.{Symbols, Below}
 use Rattle.code_theory.specs.Near.{distance, Near}
 use Rattle.code_theory.specs.Internal.{Winners}
 use Rattle.code_theory.specs.Nearest.{prefixed, messages, firstOr, find, isFound, orEmpty, isNear, nearest, isReadable, nearMessage, nearDistance}
 use Rattle.code_theory.proofs.SumLaws.{tabulate-length, tabulate-at}
 use Rattle.code_theory.proofs.CodeLaws.{distance-ext}
 use Rattle.code_theory.proofs.WinnerLaws.{near-wins, winners-near}
-use Rattle.code_theory.specs.Code.{Below}
 
 -- what is found passes the test and stands in the list
 pub find-some : (passes : List ℕ → Bool) (ts : List (List ℕ)) (t : List ℕ) → find passes ts ≡ some t → (passes t ≡ true) × List·Memᴰ t ts
@@ -122,7 +121,7 @@ only-decide q m y t h only =
     ext-getD 0 s t (omega (arith, k .size, h .size)) (λ i l. only s k (isNear-true q m y s e) i (omega (arith, k .size))))
 
 -- WINNERS DECIDE: where no value has more votes than the symbol of t, t is the one candidate
-pub winners-decide : (q m : ℕ) → 0 < q → (y t : List ℕ) → Symbols q (suc m) t → Winners q m (at t) (at y) → nearest q m y ≡ firstOr (isNear q m y t) t none
+winners-decide : (q m : ℕ) → 0 < q → (y t : List ℕ) → Symbols q (suc m) t → Winners q m (at t) (at y) → nearest q m y ≡ firstOr (isNear q m y t) t none
 winners-decide q m hq y t h w = only-decide q m y t h (λ s k n. winners-near q m hq (at s) (k .below) (at y) (at t) (h .below) n w)
 
 -- FOUND EXACTLY IF NEAR

@@ -13,7 +13,8 @@ use lib.Bits.{bitAnd, and-mask}
 use borrow.Author.Tests.{eqb-true, leb-true, ltb-true, lt-ltb, eq-eqb, ne-eqb}
 use Rattle.code_theory.specs.Sum.{at}
 use Rattle.code_theory.specs.Code.{Symbols}
-use Rattle.code_theory.specs.Question.{ask, isAlphabet, isVariables, isMessageSize, isWordSize, allBelow, accepted, refused, answer, after}
+use Rattle.code_theory.specs.Question.{ask, isAlphabet, isVariables, isMessageSize, isWordSize, allBelow, Answer, accepted, refused, answer, after}
+use Rattle.code_theory.specs.Internal.{answerNumber}
 
 pub and-true : (a b : Bool) → a && b ≡ true → (a ≡ true) × (b ≡ true)
 and-true true b e = (refl, e)
@@ -148,3 +149,12 @@ pub answer-refused : (n number : ℕ) (values : List ℕ) → refused number ≡
 unfolding answer
 answer-refused zero number values e = let z : _≡_ {A = ℕ} 0 1 = cc in absurd (omega arith)
 answer-refused (suc n) number values e = (cc, λ z. absurd (omega (arith, z)))
+
+-- an answer as one number
+pub number-yes : (a : Answer) (v : List ℕ) → accepted v ≡ a → 100 ≡ answerNumber a
+unfolding answerNumber
+number-yes a v e = ap answerNumber e
+
+pub number-no : (a : Answer) (n : ℕ) → refused n ≡ a → n ≡ answerNumber a
+unfolding answerNumber
+number-no a n e = ap answerNumber e

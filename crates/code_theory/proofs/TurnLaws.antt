@@ -10,7 +10,7 @@ use native.Mathlib.Omega.{arith}
 use lib.ListN.{set}
 use Rattle.code_theory.specs.Sum.{at}
 use Rattle.code_theory.specs.Modular.{subMod, differ}
-use Rattle.code_theory.specs.Code.{linear, symbolAt, codeword, Symbols}
+use Rattle.code_theory.specs.Code.{linear, symbolAt, codeword, Symbols, Below}
 use Rattle.code_theory.specs.Near.{distance}
 use Rattle.code_theory.specs.Turn.{turn, altered}
 use Rattle.code_theory.specs.Internal.{turned}
@@ -19,7 +19,6 @@ use Rattle.code_theory.proofs.SumLaws.{sum-ext}
 use Rattle.code_theory.proofs.ModularLaws.{subMod-mod, subMod-add, add-cancel, differ-eq, differ-ne}
 use Rattle.code_theory.proofs.CodeLaws.{symbolAt-lt, codeword-at, distance-ext}
 use Rattle.code_theory.proofs.WinnerLaws.{apart}
-use Rattle.code_theory.specs.Code.{Below}
 use Rattle.code_theory.proofs.NearestLaws.{near-found}
 
 -- TURNED WORDS: the word of a message with its constant turned is the message's word turned

@@ -6,7 +6,8 @@ ghost use mathlib.Core.Path.{_≡_};
 ghost use Rattle.soft_theory.specs.Numbers.{f32};
 ghost use Rattle.soft_theory.specs.Soft.{softVote, readAnswer, readMessage};
 ghost use Rattle.soft.specs.Pair.{pair};
-ghost use Rattle.compare_soft.specs.Internal.{voteNumber, withSums, voteSums, readNumber};
+ghost use Rattle.code_theory.specs.Internal.{answerNumber};
+ghost use Rattle.compare_soft.specs.Internal.{voteNumber, withSums, sumsAfter};
 
 // Puts the sums into a slice of two.
 fn store(s: Sums, sums: &mut [f32])
@@ -22,7 +23,7 @@ fn store(s: Sums, sums: &mut [f32])
 #[no_mangle]
 pub extern "C" fn compare_soft_vote(m: u32, k: u32, re: &[f32], im: &[f32], sums: &mut [f32]) -> u32
     ensures answer { λ r. ⌜ r ≡ voteNumber (softVote f32 m k (now (re .entry)) (now (im .entry))) ⌝ }
-    ensures buffer { λ r. ⌜ now (sums .exit) ≡ voteSums (softVote f32 m k (now (re .entry)) (now (im .entry))) (now (sums .entry)) ⌝ }
+    ensures buffer { λ r. ⌜ now (sums .exit) ≡ sumsAfter (softVote f32 m k (now (re .entry)) (now (im .entry))) (now (sums .entry)) ⌝ }
 {
     match soft::soft_vote(m, k, re, im) {
         SoftVote::Sure(symbol, s) => {
@@ -40,7 +41,7 @@ pub extern "C" fn compare_soft_vote(m: u32, k: u32, re: &[f32], im: &[f32], sums
 // The soft read: the refusal number, or 100.
 #[no_mangle]
 pub extern "C" fn compare_soft_read(m: u32, message: &mut [u8], re: &[f32], im: &[f32]) -> u32
-    ensures { λ r. ⌜ r ≡ readNumber (readAnswer f32 m (now (message .entry)) (now (re .entry)) (now (im .entry))) ⌝
+    ensures { λ r. ⌜ r ≡ answerNumber (readAnswer f32 m (now (message .entry)) (now (re .entry)) (now (im .entry))) ⌝
         ∗ ⌜ now (message .exit) ≡ readMessage f32 m (now (message .entry)) (now (re .entry)) (now (im .entry)) ⌝ }
 {
     match soft::soft_read(m, message, re, im) {

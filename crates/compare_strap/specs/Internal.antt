@@ -1,12 +1,7 @@
--- The strap's answers as one number each, for the comparison with Rust.
+-- The answer of Unpack as one number, for the comparison with Rust.
 use Prim.Native.Nat.{ℕ, _+_, _*_}
 use Rattle.code_theory.specs.Sum.{at}
 use Rattle.code_theory.specs.Question.{Answer, accepted, refused}
-
--- the refusal number, or 100 for a message filled
-unfoldable pub packNumber : Answer → ℕ
-packNumber (accepted values) = 100
-packNumber (refused number) = number
 
 -- the refusal number, or 1,000,000 + 1,000 × rate + zone: the two values of an accepted Unpack
 unfoldable pub unpackNumber : Answer → ℕ

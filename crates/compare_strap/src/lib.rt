@@ -1,7 +1,8 @@
 // The strap's calls for a program that compares them with another implementation; nothing else uses this crate.
 ghost use mathlib.Core.Path.{_≡_};
 ghost use Rattle.strap.specs.Strap.{packAnswer, packMessage, unpackAnswer};
-ghost use Rattle.compare_strap.specs.Internal.{packNumber, unpackNumber};
+ghost use Rattle.code_theory.specs.Internal.{answerNumber};
+ghost use Rattle.compare_strap.specs.Internal.{unpackNumber};
 use strap::Packed;
 use strap::Unpacked;
 
@@ -15,7 +16,7 @@ fn wide(x: u8) -> u32
 // Fills the message with the rate and the zone: the refusal number, or 100.
 #[no_mangle]
 pub extern "C" fn compare_pack(message: &mut [u8], rate: u8, zone: u8) -> u32
-    ensures answer { λ r. ⌜ r ≡ packNumber (packAnswer (now (message .entry)) zone) ⌝ }
+    ensures answer { λ r. ⌜ r ≡ answerNumber (packAnswer (now (message .entry)) zone) ⌝ }
     ensures buffer { λ r. ⌜ now (message .exit) ≡ packMessage (now (message .entry)) rate zone ⌝ }
 {
     match strap::pack(message, rate, zone) {

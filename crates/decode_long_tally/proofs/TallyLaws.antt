@@ -20,9 +20,9 @@ use Rattle.code_theory.proofs.QuestionLaws.{alphabet, alphabet-bounds}
 use Rattle.swar_theory.specs.Internal.{digit}
 use Rattle.swar_theory.proofs.DigitLaws.{digit-even, digit-odd, digit-down}
 use Rattle.decode_long_tally.proofs.CounterLaws.{units-digit}
-use Rattle.swar_lanes.specs.Internal.{offset, Lanes, Below, Packed, spot, Reach, BallotOf}
+use Rattle.swar_lanes.specs.Internal.{offset, Lanes, LanesBelow, Packed, spot, Reach, BallotOf}
 use Rattle.swar_lanes.proofs.SpotLaws.{block-sum, offset-sum, spot-sum}
-use Rattle.decode_long_tally.specs.Internal.{difference, Pairs, Listed, Votes, VotesOf, DifferencesOf}
+use Rattle.decode_long_tally.specs.Internal.{difference, Pairs, Listed, LongLanes, VotesOf, DifferencesOf}
 
 -- the entry that code reads: two lanes are the byte's low and high half
 byte : (d : ℕ) → bitAnd d 255 ≡ digit 4 d 0 + 16 * digit 4 d 1
@@ -44,10 +44,10 @@ pub byte-entry : (u : List ℕ) (d : ℕ) → at u (bitAnd d 255) ≡ at u (digi
 byte-entry u d = ap (at u) (byte d)
 
 -- the rows below q are enough for lanes below q
-pub listed : (q : ℕ) (u : List ℕ) (d : ℕ) → isAlphabet q ≡ true → Pairs q u → Below q d → Listed u d
+pub listed : (q : ℕ) (u : List ℕ) (d : ℕ) → isAlphabet q ≡ true → Pairs q u → LanesBelow q d → Listed u d
 listed q u d a p b = record { values = eight; each = λ s t l h. p .each _ _ (eight s l) (b t h) }
   where
-    eight : Below 8 d
+    eight : LanesBelow 8 d
     eight t l = omega (arith, b t l, alphabet-bounds q (alphabet q a))
 
 -- one byte more
@@ -57,7 +57,7 @@ unit-le v l = pow-le-pow-right (omega arith) {i = v} {j = 7} (le-of-suc-le-suc l
 lane-at : (d e i l : ℕ) → e ≡ d / 2 ^ (4 * (2 * i)) → digit 4 e l ≡ digit 4 d (2 * i + l)
 lane-at d e i l f = ap (λ z. digit 4 z l) f ∙ digit-down 4 d (2 * i) l
 
-pub lane-below : (d e i l : ℕ) → e ≡ d / 2 ^ (4 * (2 * i)) → Below 8 d → i < 8 → l < 2 → digit 4 e l < 8
+pub lane-below : (d e i l : ℕ) → e ≡ d / 2 ^ (4 * (2 * i)) → LanesBelow 8 d → i < 8 → l < 2 → digit 4 e l < 8
 lane-below d e i l f b h k = omega (arith, lane-at d e i l f, b (2 * i + l) (omega arith))
 
 pub byte-start : (d : ℕ) → d ≡ d / 2 ^ (4 * (2 * 0))
@@ -85,14 +85,14 @@ units-next u d e i t r p l f g h =
     ap₂ (λ x y. x + y) g (h ∙ ap₂ (λ x y. at u (x + 16 * y)) (lane-at d e i 0 f ∙ ap (digit 4 d) z) (lane-at d e i 1 f) ∙ p .each (2 * i) (2 * i + 1) (omega arith) (omega arith))
     ∙ sym (ap (λ x. sum x (λ t. 256 ^ digit 4 d t)) n ∙ sum-next (2 * i + 1) _ ∙ ap (λ x. x + 256 ^ digit 4 d (2 * i + 1)) (sum-next (2 * i) _) ∙ add-assoc _ _ _)
 
-lane-units-le : (d n : ℕ) → Below 8 d → n ≤ 16 → laneUnits d n ≤ n * 72057594037927936
+lane-units-le : (d n : ℕ) → LanesBelow 8 d → n ≤ 16 → laneUnits d n ≤ n * 72057594037927936
 unfolding laneUnits
 lane-units-le d n b l = sum-bound n 72057594037927936 _ (λ i h. unit-le _ (b i (omega arith)))
 
-pub units-fit : (d i t u : ℕ) → t + u ≡ laneUnits d (2 * (i + 1)) → i < 8 → Below 8 d → t + u < 18446744073709551616
+pub units-fit : (d i t u : ℕ) → t + u ≡ laneUnits d (2 * (i + 1)) → i < 8 → LanesBelow 8 d → t + u < 18446744073709551616
 units-fit d i t u e l b = omega (arith, e, lane-units-le d (2 * (i + 1)) b (omega arith))
 
-pub units-all : (d i t : ℕ) → i ≡ 8 → t ≡ laneUnits d (2 * i) → Below 8 d → (t ≡ sum 16 (λ t. 256 ^ digit 4 d t)) × (t ≤ 16 * 72057594037927936)
+pub units-all : (d i t : ℕ) → i ≡ 8 → t ≡ laneUnits d (2 * i) → LanesBelow 8 d → (t ≡ sum 16 (λ t. 256 ^ digit 4 d t)) × (t ≤ 16 * 72057594037927936)
 unfolding laneUnits
 units-all d i t e f b =
     let g : t ≡ laneUnits d 16 = f ∙ ap (λ z. laneUnits d (2 * z)) e in
@@ -126,7 +126,7 @@ pub ballots-none : (q m k : ℕ) (x : List ℕ) → Balloted q m k x 0 0
 unfolding ballotUnits sum
 ballots-none q m k x = (omega arith, λ w p. refl)
 
-module _ (q m k : ℕ) (x : List ℕ) (v : Votes q m x) (h : k < m) where
+module _ (q m k : ℕ) (x : List ℕ) (v : LongLanes q m x) (h : k < m) where
   one-less : suc (m - 5) ≡ m - 4
   one-less = omega (arith, v .low)
 

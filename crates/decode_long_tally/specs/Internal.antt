@@ -9,16 +9,12 @@ use Rattle.code_theory.specs.Modular.{subMod}
 use Rattle.code_theory.specs.Vote.{votes, count}
 use Rattle.code_theory.specs.Question.{isAlphabet}
 use Rattle.swar_theory.specs.Internal.{digit}
-use Rattle.swar_lanes.specs.Internal.{Below, Within, Packed}
+use Rattle.swar_lanes.specs.Internal.{LanesBelow, Within, Packed}
 
 -- ---- the counters
 -- the counters of t are f 0 to f (q - 1)
 abbrev pub Counts : ℕ → ℕ → (ℕ → ℕ) → Type 0
 Counts q t f = (v : ℕ) → v < q → digit 8 t v ≡ f v
-
--- symbol i of w minus symbol i of c, modulo q
-unfoldable pub difference : ℕ → List ℕ → List ℕ → ℕ → ℕ
-difference q w c i = subMod q (at w i) (at c i)
 
 -- u is the table of the counters' units: a one in digit v
 abbrev pub Units : List ℕ → Type 0
@@ -43,12 +39,12 @@ pub record Row (b : ℕ) (u v : List ℕ) (n : ℕ) : Type 0 where
 
 -- u has the entry of any two lanes of d
 pub record Listed (u : List ℕ) (d : ℕ) : Type 0 where
-  pub values : Below 8 d
+  pub values : LanesBelow 8 d
   pub each : (s t : ℕ) → s < 16 → t < 16 → at u (digit 4 d s + 16 * digit 4 d t) ≡ 256 ^ digit 4 d s + 256 ^ digit 4 d t
 
 -- ---- what is counted from lanes
--- what the count of a long word's votes asks for
-pub record Votes (q m : ℕ) (x : List ℕ) : Type 0 where
+-- the symbols of a long word in the lanes of sixteen numbers: what the count of its votes asks for
+pub record LongLanes (q m : ℕ) (x : List ℕ) : Type 0 where
   pub alphabet : isAlphabet q ≡ true
   pub low : 5 ≤ m
   pub high : m ≤ 8
@@ -62,6 +58,10 @@ VotesOf q m k x r = (w : List ℕ) → Packed (2 ^ (m - 4)) w x → Counts q r (
 -- t has the tallies of the first n coefficients of any such word
 abbrev pub TalliesOf : ℕ → ℕ → List ℕ → List ℕ → ℕ → Type 0
 TalliesOf q m x t n = (w : List ℕ) → Packed (2 ^ (m - 4)) w x → Tallied q m w t n
+
+-- symbol i of w minus symbol i of c, modulo q
+unfoldable pub difference : ℕ → List ℕ → List ℕ → ℕ → ℕ
+difference q w c i = subMod q (at w i) (at c i)
 
 -- the tally r counts the differences between the 16 n symbols of a word from number f on and those of another
 abbrev pub DifferencesOf : ℕ → ℕ → List ℕ → List ℕ → ℕ → ℕ → Type 0

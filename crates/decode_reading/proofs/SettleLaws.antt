@@ -3,28 +3,21 @@ use Prim.Native.Nat.{ℕ, suc, _*_, _^_, _≤_, _<_}
 use mathlib.Core.Path.{_≡_, refl, ap, sym, _∙_, subst}
 use mathlib.Core.List.{List}
 use native.Mathlib.Omega.{arith}
-use lib.ListN.{length, take, length-take}
+use lib.ListN.{take, length-take}
 use lib.Seq.{getD-take}
 use Rattle.code_theory.specs.Sum.{at}
-use Rattle.code_theory.specs.Code.{Symbols, Below}
+use Rattle.code_theory.specs.Code.{Symbols}
 use Rattle.code_theory.specs.Near.{distance, Near}
 use Rattle.code_theory.specs.Margin.{margin}
 use Rattle.code_theory.specs.Nearest.{nearDistance, nearMargin}
 use Rattle.code_theory.proofs.CodeLaws.{distance-ext}
 use Rattle.code_theory.proofs.MarginLaws.{margin-ext}
 use Rattle.code_theory.proofs.NearestLaws.{Reads, only-read}
-use Rattle.decode_reading.specs.Internal.{Settled}
+use Rattle.decode_reading.specs.Internal.{Measured, Settled}
 use Rattle.decode_reading.specs.declared.Outcome.{Outcome}
 use Rattle.decode_reading.specs.declared.Outcome.the-variants.{Read, Doubtful}
 
--- what a reader finds in d before it tests near: the only message that can be near w, and its distance
-pub record OnlyNear (q m : ℕ) (w d : List ℕ) (wrong : ℕ) : Type 0 where
-  pub size : suc m ≤ length d
-  pub below : Below q m (at d)
-  pub only : (s : ℕ → ℕ) → Below q m s → Near q m s (at w) → (k : ℕ) → k < suc m → at d k ≡ s k
-  pub measured : wrong ≡ distance q m (at d) (at w)
-
-module _ (q m : ℕ) (w d : List ℕ) (wrong : ℕ) (c : OnlyNear q m w d wrong) where
+module _ (q m : ℕ) (w d : List ℕ) (wrong : ℕ) (c : Measured q m w d wrong) where
   -- the message
   abbrev t : List ℕ
   t = take (suc m) d
@@ -39,7 +32,7 @@ module _ (q m : ℕ) (w d : List ℕ) (wrong : ℕ) (c : OnlyNear q m w d wrong)
   reads = only-read q m w t symbols (λ s h n k l. sym (c .only (at s) (h .below) n k l) ∙ same k l)
 
   its-distance : wrong ≡ distance q m (at t) (at w)
-  its-distance = c .measured ∙ distance-ext q m (at d) (at t) (at w) (at w) same (λ i l. refl)
+  its-distance = c .distance ∙ distance-ext q m (at d) (at t) (at w) (at w) same (λ i l. refl)
 
   -- THE READING: the message is read where it is near
   pub settled-read : (s₀ s : List ℕ) (least : ℕ) → 4 * wrong < 2 ^ m → s ≡ take (suc m) d → least ≡ margin q m (at d) (at w)

@@ -9,23 +9,23 @@ use native.Mathlib.Decide.{decLt}
 use Rattle.code_theory.specs.Sum.{sum, at}
 use Rattle.code_theory.specs.Index.{bit, ifClear}
 use Rattle.code_theory.specs.Modular.{subMod, same}
-use Rattle.code_theory.specs.Code.{linear}
+use Rattle.code_theory.specs.Code.{linear, Below}
 use Rattle.code_theory.specs.Near.{distance, Near}
 use Rattle.code_theory.specs.Vote.{count, vote, votes, residue, residues, tally}
 use Rattle.code_theory.specs.Question.{isAlphabet}
+use Rattle.code_theory.proofs.IndexLaws.{clear-halves, clear-first}
 use Rattle.code_theory.proofs.SumLaws.{sum-split, sum-bound}
 use Rattle.code_theory.proofs.ModularLaws.{same-le, subMod-mod, subMod-is}
 use Rattle.code_theory.proofs.CodeLaws.{linear-low}
 use Rattle.code_theory.proofs.QuestionLaws.{alphabet-positive}
 use Rattle.code_theory.proofs.VoteLaws.{tally-own, residues-exact}
-use Rattle.code_theory.specs.Code as code
 use Rattle.swar_theory.specs.Internal.{digit}
-use Rattle.swar_lanes.specs.Internal.{offset, laneOf, Lanes, Below, Held, VotesIn}
+use Rattle.swar_lanes.specs.Internal.{offset, laneOf, placeOf, Lanes, LanesBelow, Held, VotesIn}
 use Rattle.swar_lanes.proofs.LaneLaws.{lane-lt, lane-place}
 use Rattle.decode_short_errors.specs.Internal.{plain}
 use Rattle.swar_majority.specs.Internal.{threeOf, sevenOf, fifteenOf, Most}
 use Rattle.decode_short_candidate.specs.Internal.{Rest, message, CandidateOf, CandidateOfBoth}
-use Rattle.decode_short_candidate.proofs.LaneVotes.{held-at, vote-at, openOf, allOf, open-is, all-is}
+use Rattle.decode_short_candidate.proofs.LaneVotes.{held-at, symbol-below, vote-at, openOf, allOf, open-is, all-is}
 use Rattle.decode_short_candidate.proofs.LaneVotes.{open-4-0, open-4-1, open-8-0, open-8-1, open-8-2, open-16-0, open-16-1, open-16-2, open-16-3, all-8, all-halves, all-first}
 
 -- `plain` is the word of the coefficients of s, where the coefficients are equal
@@ -43,30 +43,17 @@ plain-4 q c0 c1 c2 c3 s e0 e1 e2 e3 i =
 
 -- the lane of place j has the vote of place j for the constant
 residue-at : (q m x c0 c1 c2 c3 d : ℕ) (w : List ℕ) (s : ℕ → ℕ) → Rest q x c0 c1 c2 c3 d → Held w 0 x
-    → ((i : ℕ) → i < 16 → plain q c0 c1 c2 c3 i ≡ linear m (λ k. s (suc k)) i % q) → (j : ℕ) → j < 16 → digit 4 d (laneOf j) ≡ residue q m s (at w) j
-unfolding residue
+    → ((i : ℕ) → i < 16 → plain q c0 c1 c2 c3 i ≡ linear m (λ k. s (suc k)) i % q) → (j : ℕ) → j < 16 → placeOf d j ≡ residue q m s (at w) j
+unfolding residue placeOf
 residue-at q m x c0 c1 c2 c3 d w s left held e j h =
     left (laneOf j) (lane-lt j h)
     ∙ ap₂ (subMod q) (held-at w 0 x held j h ∙ ap (at w) (zero-add j)) (ap (plain q c0 c1 c2 c3) (lane-place j h) ∙ e j h)
     ∙ subMod-mod q (at w j) (linear m (λ k. s (suc k)) j)
 
--- a sum over 32 places is one over the first sixteen and one over the second
-open-32 : (k : ℕ) → k < 4 → (f : ℕ → ℕ) → sum 32 (λ i. ifClear (bit k i) (f i)) ≡ sum 16 (λ i. ifClear (bit k i) (f i)) + sum 16 (λ i. ifClear (bit k i) (f (16 + i)))
-unfolding sum bit ifClear
-open-32 zero l f = omega arith
-open-32 (suc zero) l f = omega arith
-open-32 (suc (suc zero)) l f = omega arith
-open-32 (suc (suc (suc zero))) l f = omega arith
-open-32 (suc (suc (suc (suc k)))) l f = absurd (omega arith)
-
-low-32 : (f : ℕ → ℕ) → sum 32 (λ i. ifClear (bit 4 i) (f i)) ≡ sum 16 f
-unfolding sum bit ifClear
-low-32 f = omega arith
-
 -- for coefficient 4 the vote of a place is a lane of y minus the same lane of x
 across-at : (q x y d : ℕ) (w : List ℕ) → Held w 0 x → Held w 16 y → Lanes d (λ t. subMod q (digit 4 y t) (digit 4 x t))
-    → (j : ℕ) → j < 16 → digit 4 d (laneOf j) ≡ vote q 4 (at w) j
-unfolding vote
+    → (j : ℕ) → j < 16 → placeOf d j ≡ vote q 4 (at w) j
+unfolding vote placeOf
 across-at q x y d w held held′ e j h =
     e (laneOf j) (lane-lt j h) ∙ ap₂ (subMod q) (held-at w 16 y held′ j h ∙ ap (at w) (add-comm 16 j)) (held-at w 0 x held j h ∙ ap (at w) (zero-add j))
 
@@ -76,8 +63,8 @@ unfolding residues count ifClear
 exactly q m s y hq hs hy = residues-exact q m s y hq hs hy
 
 -- A MESSAGE s, and a word w whose first places x holds: the votes for the symbols of s and the distance
-module _ (q m x : ℕ) (al : isAlphabet q ≡ true) (s : ℕ → ℕ) (w : List ℕ) (hs : code.Below q m s) (held : Held w 0 x) where
-  first-vote : (k d : ℕ) → k < 4 → VotesIn q k x d → (j : ℕ) → j < 16 → bit k j ≡ 0 → digit 4 d (laneOf j) ≡ vote q k (at w) j
+module _ (q m x : ℕ) (al : isAlphabet q ≡ true) (s : ℕ → ℕ) (w : List ℕ) (hs : Below q m s) (held : Held w 0 x) where
+  first-vote : (k d : ℕ) → k < 4 → VotesIn q k x d → (j : ℕ) → j < 16 → bit k j ≡ 0 → placeOf d j ≡ vote q k (at w) j
   first-vote k d h e j l z = vote-at q k x d w 0 h e held j l z ∙ ap (vote q k (at w)) (zero-add j)
 
   own : (k : ℕ) → k < m → 2 ^ m ≤ 2 * (sum (2 ^ m) (λ i. ifClear (bit k i) (same (vote q k (at w) i) (s (suc k)))) + distance q m s (at w))
@@ -88,11 +75,11 @@ module _ (q m x : ℕ) (al : isAlphabet q ≡ true) (s : ℕ → ℕ) (w : List 
   own-open : (k d : ℕ) → k < 4 → k < m → 2 ^ m ≤ 16 → VotesIn q k x d → 2 ^ m ≤ 2 * (openOf (2 ^ m) k d (s (suc k)) + distance q m s (at w))
   own-open k d h l n e = omega (arith, own k l, open-is (2 ^ m) k d (vote q k (at w)) n (first-vote k d h e) (s (suc k)))
 
-  first-below : Below q x → (i : ℕ) → i < 16 → at w i < q
-  first-below b i h = omega (arith, held-at w 0 x held i h, ap (at w) (zero-add i), b (laneOf i) (lane-lt i h))
+  first-below : LanesBelow q x → (i : ℕ) → i < 16 → at w i < q
+  first-below b i h = omega (arith, symbol-below q w 0 x held b i h, ap (at w) (zero-add i))
 
   -- the votes for the constant, up to 16 places
-  own-all : (c0 c1 c2 c3 d : ℕ) → Below q x → 2 ^ m ≤ 16 → Rest q x c0 c1 c2 c3 d
+  own-all : (c0 c1 c2 c3 d : ℕ) → LanesBelow q x → 2 ^ m ≤ 16 → Rest q x c0 c1 c2 c3 d
       → ((i : ℕ) → plain q c0 c1 c2 c3 i ≡ linear m (λ k. s (suc k)) i % q) → allOf (2 ^ m) d (s 0) + distance q m s (at w) ≡ 2 ^ m
   own-all c0 c1 c2 c3 d b n left e =
       ap (λ z. z + distance q m s (at w)) (all-is (2 ^ m) d (residue q m s (at w)) n (residue-at q m x c0 c1 c2 c3 d w s left held (λ i h. e i)) (s 0))
@@ -108,7 +95,7 @@ module _ (q m x : ℕ) (al : isAlphabet q ≡ true) (s : ℕ → ℕ) (w : List 
           own k (omega arith),
           ap (λ z. sum (2 ^ z) (λ i. ifClear (bit k i) (same (vote q k (at w) i) (s (suc k))))) five,
           ap (λ z. 2 ^ z) five,
-          open-32 k h (λ i. same (vote q k (at w) i) (s (suc k))),
+          clear-halves k 4 h (λ i. same (vote q k (at w) i) (s (suc k))),
           open-is 16 k d (vote q k (at w)) (omega arith) (first-vote k d h f) (s (suc k)),
           open-is 16 k e (λ j. vote q k (at w) (16 + j)) (omega arith) (vote-at q k y e w 16 h g held′) (s (suc k)),
         )
@@ -121,15 +108,15 @@ module _ (q m x : ℕ) (al : isAlphabet q ≡ true) (s : ℕ → ℕ) (w : List 
           own 4 (omega arith),
           ap (λ z. sum (2 ^ z) (λ i. ifClear (bit 4 i) (same (vote q 4 (at w) i) (s 5)))) five,
           ap (λ z. 2 ^ z) five,
-          low-32 (λ i. same (vote q 4 (at w) i) (s 5)),
+          clear-first 4 (λ i. same (vote q 4 (at w) i) (s 5)),
           all-is 16 d (vote q 4 (at w)) (omega arith) across (s 5),
         )
       where
-        across : (j : ℕ) → j < 16 → digit 4 d (laneOf j) ≡ vote q 4 (at w) j
+        across : (j : ℕ) → j < 16 → placeOf d j ≡ vote q 4 (at w) j
         across j h = across-at q x y d w held held′ e j h
 
     -- the votes for the constant of the first sixteen of 32 places
-    own-first : (c0 c1 c2 c3 d : ℕ) → m ≡ 5 → Below q x → Below q y → Rest q x c0 c1 c2 c3 d
+    own-first : (c0 c1 c2 c3 d : ℕ) → m ≡ 5 → LanesBelow q x → LanesBelow q y → Rest q x c0 c1 c2 c3 d
         → ((i : ℕ) → i < 16 → plain q c0 c1 c2 c3 i ≡ linear m (λ k. s (suc k)) i % q) → 16 ≤ allOf 16 d (s 0) + distance q m s (at w)
     own-first c0 c1 c2 c3 d five b b′ left e =
         omega (
@@ -150,7 +137,7 @@ module _ (q m x : ℕ) (al : isAlphabet q ≡ true) (s : ℕ → ℕ) (w : List 
             go (no l) =
                 let r : i - 16 < 16 = omega (arith, h, ap (λ z. 2 ^ z) five) in
                 let p : 16 + (i - 16) ≡ i = omega arith in
-                omega (arith, held-at w 16 y held′ (i - 16) r, ap (at w) p, b′ (laneOf (i - 16)) (lane-lt (i - 16) r))
+                omega (arith, symbol-below q w 16 y held′ b′ (i - 16) r, ap (at w) p)
 
         exact : sum (2 ^ m) (λ i. same (residue q m s (at w) i) (s 0)) + distance q m s (at w) ≡ 2 ^ m
         exact = exactly q m s (at w) (alphabet-positive q al) (hs 0 (omega arith)) below
@@ -167,7 +154,7 @@ below-6 q a c0 c1 c2 c3 c4 ha h0 h1 h2 h3 h4 (suc (suc (suc (suc (suc zero))))) 
 below-6 q a c0 c1 c2 c3 c4 ha h0 h1 h2 h3 h4 (suc (suc (suc (suc (suc (suc k)))))) l = absurd (omega arith)
 
 -- 4 PLACES: a near message has every vote that is counted
-module _ (q x : ℕ) (al : isAlphabet q ≡ true) (s : ℕ → ℕ) (w : List ℕ) (hs : code.Below q 2 s) (held : Held w 0 x) (near : Near q 2 s (at w)) where
+module _ (q x : ℕ) (al : isAlphabet q ≡ true) (s : ℕ → ℕ) (w : List ℕ) (hs : Below q 2 s) (held : Held w 0 x) (near : Near q 2 s (at w)) where
   most-4-0 : (d : ℕ) → VotesIn q 0 x d → 1 ≤ same (digit 4 d 0) (s 1)
   most-4-0 d e = omega (arith, near, own-open q 2 x al s w hs held 0 d (omega arith) (omega arith) (omega arith) e, open-4-0 d (s 1), same-le (digit 4 d 4) (s 1))
 
@@ -175,14 +162,14 @@ module _ (q x : ℕ) (al : isAlphabet q ≡ true) (s : ℕ → ℕ) (w : List �
   most-4-1 d e = omega (arith, near, own-open q 2 x al s w hs held 1 d (omega arith) (omega arith) (omega arith) e, open-4-1 d (s 2), same-le (digit 4 d 2) (s 2))
 
   -- the vote of place 0 for the constant is its symbol
-  first-residue : Below q x → residue q 2 s (at w) 0 ≡ digit 4 x 0
+  first-residue : LanesBelow q x → residue q 2 s (at w) 0 ≡ digit 4 x 0
   unfolding residue linear sum bit offset
   first-residue b =
       let e : digit 4 x 0 ≡ at w 0 = held 0 (omega arith) in
       let z : digit 4 x 0 + linear 2 (λ k. s (suc k)) 0 ≡ at w 0 = omega (arith, e) in
       subMod-is q (at w 0) (linear 2 (λ k. s (suc k)) 0) (digit 4 x 0) (alphabet-positive q al) (b 0 (omega arith)) (ap (λ v. v % q) z)
 
-  most-4 : Below q x → 1 ≤ same (digit 4 x 0) (s 0)
+  most-4 : LanesBelow q x → 1 ≤ same (digit 4 x 0) (s 0)
   unfolding sum
   most-4 b =
       omega (
@@ -196,7 +183,7 @@ module _ (q x : ℕ) (al : isAlphabet q ≡ true) (s : ℕ → ℕ) (w : List �
       )
 
 -- 8 PLACES: a near message has most of the votes that are counted
-module _ (q x : ℕ) (al : isAlphabet q ≡ true) (s : ℕ → ℕ) (w : List ℕ) (hs : code.Below q 3 s) (held : Held w 0 x) (near : Near q 3 s (at w)) where
+module _ (q x : ℕ) (al : isAlphabet q ≡ true) (s : ℕ → ℕ) (w : List ℕ) (hs : Below q 3 s) (held : Held w 0 x) (near : Near q 3 s (at w)) where
   most-8-0 : (d : ℕ) → VotesIn q 0 x d → 2 ≤ threeOf d 4 8 (s 1)
   most-8-0 d e = omega (arith, near, own-open q 3 x al s w hs held 0 d (omega arith) (omega arith) (omega arith) e, open-8-0 d (s 1), same-le (digit 4 d 12) (s 1))
 
@@ -206,11 +193,11 @@ module _ (q x : ℕ) (al : isAlphabet q ≡ true) (s : ℕ → ℕ) (w : List �
   most-8-2 : (d : ℕ) → VotesIn q 2 x d → 2 ≤ threeOf d 2 4 (s 3)
   most-8-2 d e = omega (arith, near, own-open q 3 x al s w hs held 2 d (omega arith) (omega arith) (omega arith) e, open-8-2 d (s 3), same-le (digit 4 d 6) (s 3))
 
-  most-8 : (c0 c1 c2 d : ℕ) → Below q x → c0 ≡ s 1 → c1 ≡ s 2 → c2 ≡ s 3 → Rest q x c0 c1 c2 0 d → 2 ≤ threeOf d 2 4 (s 0)
+  most-8 : (c0 c1 c2 d : ℕ) → LanesBelow q x → c0 ≡ s 1 → c1 ≡ s 2 → c2 ≡ s 3 → Rest q x c0 c1 c2 0 d → 2 ≤ threeOf d 2 4 (s 0)
   most-8 c0 c1 c2 d b e0 e1 e2 left = omega (arith, near, own-all q 3 x al s w hs held c0 c1 c2 0 d b (omega arith) left (plain-3 q c0 c1 c2 s e0 e1 e2), all-8 d (s 0))
 
 -- 16 PLACES: a near message has most of the votes that are counted
-module _ (q x : ℕ) (al : isAlphabet q ≡ true) (s : ℕ → ℕ) (w : List ℕ) (hs : code.Below q 4 s) (held : Held w 0 x) (near : Near q 4 s (at w)) where
+module _ (q x : ℕ) (al : isAlphabet q ≡ true) (s : ℕ → ℕ) (w : List ℕ) (hs : Below q 4 s) (held : Held w 0 x) (near : Near q 4 s (at w)) where
   most-16-0 : (d : ℕ) → VotesIn q 0 x d → 4 ≤ sevenOf d 4 8 1 (s 1)
   most-16-0 d e = omega (arith, near, own-open q 4 x al s w hs held 0 d (omega arith) (omega arith) (omega arith) e, open-16-0 d (s 1), same-le (digit 4 d 13) (s 1))
 
@@ -223,12 +210,12 @@ module _ (q x : ℕ) (al : isAlphabet q ≡ true) (s : ℕ → ℕ) (w : List �
   most-16-3 : (d : ℕ) → VotesIn q 3 x d → 4 ≤ sevenOf d 2 4 8 (s 4)
   most-16-3 d e = omega (arith, near, own-open q 4 x al s w hs held 3 d (omega arith) (omega arith) (omega arith) e, open-16-3 d (s 4), same-le (digit 4 d 14) (s 4))
 
-  most-16 : (c0 c1 c2 c3 d : ℕ) → Below q x → c0 ≡ s 1 → c1 ≡ s 2 → c2 ≡ s 3 → c3 ≡ s 4 → Rest q x c0 c1 c2 c3 d → 4 ≤ sevenOf d 2 4 8 (s 0)
+  most-16 : (c0 c1 c2 c3 d : ℕ) → LanesBelow q x → c0 ≡ s 1 → c1 ≡ s 2 → c2 ≡ s 3 → c3 ≡ s 4 → Rest q x c0 c1 c2 c3 d → 4 ≤ sevenOf d 2 4 8 (s 0)
   most-16 c0 c1 c2 c3 d b e0 e1 e2 e3 left =
       omega (arith, near, own-all q 4 x al s w hs held c0 c1 c2 c3 d b (omega arith) left (plain-4 q c0 c1 c2 c3 s e0 e1 e2 e3), all-first d (s 0), open-16-3 d (s 0), same-le (digit 4 d 14) (s 0))
 
 -- 32 PLACES: a near message has most of the votes that are counted
-module _ (q x y : ℕ) (al : isAlphabet q ≡ true) (s : ℕ → ℕ) (w : List ℕ) (hs : code.Below q 5 s) (held : Held w 0 x) (held′ : Held w 16 y) (near : Near q 5 s (at w)) where
+module _ (q x y : ℕ) (al : isAlphabet q ≡ true) (s : ℕ → ℕ) (w : List ℕ) (hs : Below q 5 s) (held : Held w 0 x) (held′ : Held w 16 y) (near : Near q 5 s (at w)) where
   most-32-0 : (d e : ℕ) → VotesIn q 0 x d → VotesIn q 0 y e → 8 ≤ fifteenOf d e 4 8 1 (s 1)
   unfolding fifteenOf
   most-32-0 d e f g = omega (arith, near, own-both q 5 x al s w hs held y held′ 0 d e (omega arith) refl f g, open-16-0 d (s 1), open-16-0 e (s 1), same-le (digit 4 d 13) (s 1))
@@ -249,7 +236,7 @@ module _ (q x y : ℕ) (al : isAlphabet q ≡ true) (s : ℕ → ℕ) (w : List 
   unfolding fifteenOf
   most-32-4 d f = omega (arith, near, own-last q 5 x al s w hs held y held′ d refl f, all-halves d (s 5), open-16-3 d (s 5), open-16-3 (d / 2 ^ 4) (s 5), same-le (digit 4 d 14) (s 5))
 
-  most-32 : (c0 c1 c2 c3 d : ℕ) → Below q x → Below q y → c0 ≡ s 1 → c1 ≡ s 2 → c2 ≡ s 3 → c3 ≡ s 4 → Rest q x c0 c1 c2 c3 d → 8 ≤ fifteenOf d (d / 2 ^ 4) 2 4 8 (s 0)
+  most-32 : (c0 c1 c2 c3 d : ℕ) → LanesBelow q x → LanesBelow q y → c0 ≡ s 1 → c1 ≡ s 2 → c2 ≡ s 3 → c3 ≡ s 4 → Rest q x c0 c1 c2 c3 d → 8 ≤ fifteenOf d (d / 2 ^ 4) 2 4 8 (s 0)
   unfolding fifteenOf
   most-32 c0 c1 c2 c3 d b b′ e0 e1 e2 e3 left =
       omega (
@@ -275,7 +262,7 @@ symbols-are m a c0 c1 c2 c3 c4 s h e e0 e1 e2 e3 e4 (suc (suc (suc (suc (suc zer
 symbols-are m a c0 c1 c2 c3 c4 s h e e0 e1 e2 e3 e4 (suc (suc (suc (suc (suc (suc k)))))) l = absurd (omega arith)
 
 -- THE CANDIDATES of words of 4, 8, 16 and 32 places
-pub candidate-4 : (q x d0 d1 a c0 c1 : ℕ) → isAlphabet q ≡ true → Below q x
+pub candidate-4 : (q x d0 d1 a c0 c1 : ℕ) → isAlphabet q ≡ true → LanesBelow q x
     → VotesIn q 0 x d0 → Most q 1 (same (digit 4 d0 0)) c0
     → VotesIn q 1 x d1 → Most q 1 (same (digit 4 d1 0)) c1
     → Most q 1 (same (digit 4 x 0)) a
@@ -290,7 +277,7 @@ candidate-4 q x d0 d1 a c0 c1 al b v0 h0 v1 h1 h w held = record {
       (λ l. e0) (λ l. e1) (λ l. absurd (omega (arith, l))) (λ l. absurd (omega (arith, l))) (λ l. absurd (omega (arith, l)));
 }
 
-pub candidate-8 : (q x d0 d1 d2 d a c0 c1 c2 : ℕ) → isAlphabet q ≡ true → Below q x
+pub candidate-8 : (q x d0 d1 d2 d a c0 c1 c2 : ℕ) → isAlphabet q ≡ true → LanesBelow q x
     → VotesIn q 0 x d0 → Most q 2 (threeOf d0 4 8) c0
     → VotesIn q 1 x d1 → Most q 2 (threeOf d1 2 8) c1
     → VotesIn q 2 x d2 → Most q 2 (threeOf d2 2 4) c2
@@ -307,7 +294,7 @@ candidate-8 q x d0 d1 d2 d a c0 c1 c2 al b v0 h0 v1 h1 v2 h2 left h w held = rec
       (λ l. e0) (λ l. e1) (λ l. e2) (λ l. absurd (omega (arith, l))) (λ l. absurd (omega (arith, l)));
 }
 
-pub candidate-16 : (q x d0 d1 d2 d3 d a c0 c1 c2 c3 : ℕ) → isAlphabet q ≡ true → Below q x
+pub candidate-16 : (q x d0 d1 d2 d3 d a c0 c1 c2 c3 : ℕ) → isAlphabet q ≡ true → LanesBelow q x
     → VotesIn q 0 x d0 → Most q 4 (sevenOf d0 4 8 1) c0
     → VotesIn q 1 x d1 → Most q 4 (sevenOf d1 2 8 1) c1
     → VotesIn q 2 x d2 → Most q 4 (sevenOf d2 2 4 1) c2
@@ -326,7 +313,7 @@ candidate-16 q x d0 d1 d2 d3 d a c0 c1 c2 c3 al b v0 h0 v1 h1 v2 h2 v3 h3 left h
       (λ l. e0) (λ l. e1) (λ l. e2) (λ l. e3) (λ l. absurd (omega (arith, l)));
 }
 
-pub candidate-32 : (q x y d0 e0 d1 e1 d2 e2 d3 e3 d4 d a c0 c1 c2 c3 c4 : ℕ) → isAlphabet q ≡ true → Below q x → Below q y
+pub candidate-32 : (q x y d0 e0 d1 e1 d2 e2 d3 e3 d4 d a c0 c1 c2 c3 c4 : ℕ) → isAlphabet q ≡ true → LanesBelow q x → LanesBelow q y
     → VotesIn q 0 x d0 → VotesIn q 0 y e0 → Most q 8 (fifteenOf d0 e0 4 8 1) c0
     → VotesIn q 1 x d1 → VotesIn q 1 y e1 → Most q 8 (fifteenOf d1 e1 2 8 1) c1
     → VotesIn q 2 x d2 → VotesIn q 2 y e2 → Most q 8 (fifteenOf d2 e2 2 4 1) c2

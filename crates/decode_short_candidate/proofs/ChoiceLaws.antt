@@ -27,9 +27,6 @@ pub rest-is : (q x c0 c1 c2 c3 code d : ℕ) → Lanes code (λ t. plain q c0 c1
 rest-is q x c0 c1 c2 c3 code d e f t h = f t h ∙ ap (subMod q (digit 4 x t)) (e t h)
 
 -- an `and` with q - 1 leaves the remainder by q
-pub mask-le : (q : ℕ) → isAlphabet q ≡ true → 1 ≤ q
-mask-le q al = alphabet-positive q al
-
 pub symbol-is : (q x : ℕ) → isAlphabet q ≡ true → bitAnd x (q - 1) ≡ x % q
 symbol-is q x al = mask-mod q x (alphabet q al)
 

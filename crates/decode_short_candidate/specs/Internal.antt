@@ -1,11 +1,9 @@
 -- The candidate of a word in lanes: the only message that can be near it.
-use Prim.Native.Nat.{ℕ, suc, _<_}
-use mathlib.Core.Path.{_≡_}
+use Prim.Native.Nat.{ℕ, _<_}
 use mathlib.Core.List.{List, [], _∷_}
 use Rattle.code_theory.specs.Sum.{at}
 use Rattle.code_theory.specs.Modular.{subMod}
-use Rattle.code_theory.specs.Near.{Near}
-use Rattle.code_theory.specs.Code as code
+use Rattle.code_theory.specs.Internal.{OnlyNear}
 use Rattle.swar_theory.specs.Internal.{digit}
 use Rattle.swar_lanes.specs.Internal.{offset, Lanes, Held}
 use Rattle.decode_short_errors.specs.Internal.{plain}
@@ -23,10 +21,10 @@ message a c0 c1 c2 c3 c4 = a ∷ c0 ∷ c1 ∷ c2 ∷ c3 ∷ c4 ∷ []
 abbrev pub messageOf : Candidate → List ℕ
 messageOf g = message (g .constant) (g .c0) (g .c1) (g .c2) (g .c3) (g .c4)
 
--- d is the only message that can be near the word w of 2^m places
+-- d is the candidate of the word w of 2 ^ m places
 pub record OnlyCandidate (q m : ℕ) (w d : List ℕ) : Type 0 where
   pub below : (k : ℕ) → k < 6 → at d k < q
-  pub only : (s : ℕ → ℕ) → code.Below q m s → Near q m s (at w) → (k : ℕ) → k < suc m → at d k ≡ s k
+  pub only : OnlyNear q m w d
 
 -- d is the candidate of any word that x holds from its first place on
 abbrev pub CandidateOf : ℕ → ℕ → ℕ → List ℕ → Type 0

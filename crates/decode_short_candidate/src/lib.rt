@@ -7,13 +7,13 @@ ghost use mathlib.Core.Path.{_≡_};
 ghost use mathlib.Core.Bool.{true};
 ghost use Prim.Native.Nat.{_%_, _^_, _<_};
 ghost use Rattle.code_theory.specs.Question.{isAlphabet};
-ghost use Rattle.swar_lanes.specs.Internal.{Below, laneBit};
+ghost use Rattle.swar_lanes.specs.Internal.{LanesBelow, laneBit};
 ghost use Rattle.swar_majority.specs.Internal.{threeOf, sevenOf, fifteenOf, Most};
 ghost use Rattle.decode_short_candidate.specs.Internal.{Rest, messageOf, CandidateOf, CandidateOfBoth};
 
 // The word minus the word of four coefficients, modulo q: the votes for the constant.
 fn rest(q: u64, x: u64, c0: u64, c1: u64, c2: u64, c3: u64) -> u64
-    requires { ⌜ (isAlphabet q ≡ true) × Below q x × (c0 < q) × (c1 < q) × (c2 < q) × (c3 < q) ⌝ }
+    requires { ⌜ (isAlphabet q ≡ true) × LanesBelow q x × (c0 < q) × (c1 < q) × (c2 < q) × (c3 < q) ⌝ }
     ensures { λ r. ⌜ Rest q x c0 c1 c2 c3 r ⌝ }
 {
     swar_lanes::less(q, x, decode_short_errors::code(q, c0, c1, c2, c3))
@@ -67,7 +67,7 @@ pub struct Candidate {
 
 // The candidate of a word of 4 places: one vote for each coefficient, and place 0 is the constant.
 pub fn candidate_4(q: u64, x: u64) -> Candidate
-    requires { ⌜ (isAlphabet q ≡ true) × Below q x ⌝ }
+    requires { ⌜ (isAlphabet q ≡ true) × LanesBelow q x ⌝ }
     ensures { λ r. ⌜ (r .c2 ≡ 0) × (r .c3 ≡ 0) × (r .c4 ≡ 0) × CandidateOf q 2 x (messageOf r) ⌝ }
 {
     let c0 = symbol(q, votes_in(q, 0, x));
@@ -84,7 +84,7 @@ pub fn candidate_4(q: u64, x: u64) -> Candidate
 
 // The candidate of a word of 8 places: three of four votes for each coefficient, and three of eight for the constant.
 pub fn candidate_8(q: u64, x: u64) -> Candidate
-    requires { ⌜ (isAlphabet q ≡ true) × Below q x ⌝ }
+    requires { ⌜ (isAlphabet q ≡ true) × LanesBelow q x ⌝ }
     ensures { λ r. ⌜ (r .c3 ≡ 0) × (r .c4 ≡ 0) × CandidateOf q 3 x (messageOf r) ⌝ }
 {
     let c0 = three(q, votes_in(q, 0, x), 1, 2);
@@ -103,7 +103,7 @@ pub fn candidate_8(q: u64, x: u64) -> Candidate
 
 // The candidate of a word of 16 places: seven of eight votes for each coefficient, and seven of sixteen for the constant.
 pub fn candidate_16(q: u64, x: u64) -> Candidate
-    requires { ⌜ (isAlphabet q ≡ true) × Below q x ⌝ }
+    requires { ⌜ (isAlphabet q ≡ true) × LanesBelow q x ⌝ }
     ensures { λ r. ⌜ (r .c4 ≡ 0) × CandidateOf q 4 x (messageOf r) ⌝ }
 {
     let c0 = seven(q, votes_in(q, 0, x), 1, 2, 3);
@@ -123,7 +123,7 @@ pub fn candidate_16(q: u64, x: u64) -> Candidate
 
 // The candidate of a word of 32 places: fifteen of sixteen votes for each coefficient, and fifteen of the first sixteen for the constant.
 pub fn candidate_32(q: u64, x: u64, y: u64) -> Candidate
-    requires { ⌜ (isAlphabet q ≡ true) × Below q x × Below q y ⌝ }
+    requires { ⌜ (isAlphabet q ≡ true) × LanesBelow q x × LanesBelow q y ⌝ }
     ensures { λ r. ⌜ CandidateOfBoth q 5 x y (messageOf r) ⌝ }
 {
     let c0 = fifteen(q, votes_in(q, 0, x), votes_in(q, 0, y), 1, 2, 3);

@@ -4,23 +4,19 @@ use mathlib.Core.Path.{_≡_, refl, ap, ap₂, _∙_}
 use mathlib.Core.Bool.{true}
 use native.Mathlib.Omega.{arith}
 use native.Mathlib.Nat.{mod-lt, mod-add-mod, mul-le-mul-left, mul-one, zero-add}
-use lib.Dec.{eqb, ltb}
+use lib.Dec.{eqb}
 use lib.Bits.{bitAnd}
-use borrow.Author.Tests.{ltb-true}
-use Rattle.code_theory.specs.Sum.{sum, every}
+use Rattle.code_theory.specs.Sum.{every}
 use Rattle.code_theory.specs.Index.{bit}
-use Rattle.code_theory.specs.Modular.{subMod, same}
+use Rattle.code_theory.specs.Modular.{subMod}
 use Rattle.code_theory.specs.Question.{isAlphabet}
 use Rattle.code_theory.proofs.QuestionLaws.{alphabet, alphabet-bounds, alphabet-positive, mask-mod}
-use Rattle.code_theory.proofs.SumLaws.{sum-ext, sum-le}
-use Rattle.code_theory.proofs.EveryLaws.{every-at}
-use Rattle.code_theory.proofs.ModularLaws.{same-le}
 use Rattle.swar_theory.specs.Internal.{digit}
 use Rattle.swar_theory.proofs.DigitLaws.{digit-and, digit-add, add-lt, digit-times, times-lt}
-use Rattle.swar_lanes.specs.Internal.{offset, Lanes, Below}
+use Rattle.swar_lanes.specs.Internal.{offset, Lanes, LanesBelow}
 use Rattle.swar_lanes.proofs.LaneLaws.{lanes-are, none-lanes, mask-lane, spread-lanes}
 use Rattle.swar_count.specs.Internal.{Mask}
-use Rattle.decode_short_errors.specs.Internal.{plain, zeroPlaces}
+use Rattle.decode_short_errors.specs.Internal.{plain}
 
 -- a times a mark, 0 or 1, is at most a
 part-le : (a d : ℕ) → d ≤ 1 → a * d ≤ a
@@ -40,11 +36,11 @@ module _ (q a marks : ℕ) (al : isAlphabet q ≡ true) (hm : marks < 1844674407
   part-lane : (t : ℕ) → t < 16 → digit 4 (a * marks) t ≡ a * digit 4 marks t
   part-lane = digit-times 4 16 a marks hm part-fits
 
-  pub part-below : Below q (a * marks)
+  pub part-below : LanesBelow q (a * marks)
   part-below t h = omega (arith, part-lane t h, part-le a (digit 4 marks t) (mk t h))
 
   -- the lanes of c plus a in the marked lanes, modulo q
-  module _ (c : ℕ) (hc : c < 18446744073709551616) (bc : Below q c) where
+  module _ (c : ℕ) (hc : c < 18446744073709551616) (bc : LanesBelow q c) where
     fits : (t : ℕ) → t < 16 → digit 4 c t + digit 4 (a * marks) t < 16
     fits t h = omega (arith, part-below t h, bc t h, few)
 
@@ -57,12 +53,8 @@ module _ (q a marks : ℕ) (al : isAlphabet q ≡ true) (hm : marks < 1844674407
         ∙ ap₂ bitAnd (digit-add 4 16 c (a * marks) hc part-lt fits t h ∙ ap (λ z. digit 4 c t + z) (part-lane t h)) (mask-lane q al t h)
         ∙ mask-mod q _ (alphabet q al)
 
-pub plus-below : (q r : ℕ) (f : ℕ → ℕ) → isAlphabet q ≡ true → Lanes r (λ t. f t % q) → Below q r
+pub plus-below : (q r : ℕ) (f : ℕ → ℕ) → isAlphabet q ≡ true → Lanes r (λ t. f t % q) → LanesBelow q r
 plus-below q r f al e t h = omega (arith, e t h, mod-lt (f t) (alphabet-positive q al))
-
--- a literal is a mask of marks, by one computed test
-pub mask-is : (x : ℕ) → every 16 (λ t. ltb (digit 4 x t) 2) ≡ true → Mask x
-mask-is x e t h = omega (arith, ltb-true (digit 4 x t) 2 (every-at 16 (λ t. ltb (digit 4 x t) 2) e t h))
 
 -- the literals that mark the places whose bit k is 1
 marks-are : (k x : ℕ) → every 16 (λ t. eqb (digit 4 x t) (bit k (offset t))) ≡ true → Lanes x (λ t. bit k (offset t))
@@ -118,7 +110,7 @@ plain-lt : (q c0 c1 c2 c3 i : ℕ) → 0 < q → plain q c0 c1 c2 c3 i < q
 unfolding plain
 plain-lt q c0 c1 c2 c3 i h = mod-lt _ h
 
-pub plain-below : (q c0 c1 c2 c3 code : ℕ) → isAlphabet q ≡ true → Lanes code (λ t. plain q c0 c1 c2 c3 (offset t)) → Below q code
+pub plain-below : (q c0 c1 c2 c3 code : ℕ) → isAlphabet q ≡ true → Lanes code (λ t. plain q c0 c1 c2 c3 (offset t)) → LanesBelow q code
 plain-below q c0 c1 c2 c3 code al e t h = omega (arith, e t h, plain-lt q c0 c1 c2 c3 (offset t) (alphabet-positive q al))
 
 -- THE ERRORS are the word minus the code, minus the constant
@@ -128,18 +120,3 @@ pub errors-are : (q x code a y r : ℕ) → isAlphabet q ≡ true → a < q
     → Lanes r (λ t. subMod q (subMod q (digit 4 x t) (digit 4 code t)) a)
 errors-are q x code a y r al l e f t h =
     f t h ∙ ap₂ (subMod q) (e t h) (spread-lanes a (omega (arith, alphabet-bounds q (alphabet q al))) t h)
-
--- the marked places with the error v are no more than the marked places
-pub equal-le : (e v marks p : ℕ) → Lanes p (λ t. digit 4 marks t * same (digit 4 e t) v) → sum 16 (digit 4 marks) < 15 → sum 16 (digit 4 p) < 15
-equal-le e v marks p l h =
-    omega (arith, sum-le 16 (digit 4 p) (digit 4 marks) (λ t k. omega (arith, l t k, part-le (digit 4 marks t) (same (digit 4 e t) v) (same-le (digit 4 e t) v))))
-
--- THE PLACES WITHOUT AN ERROR are the marked lanes of e that are 0
-pub zeros-are : (e marks p r : ℕ) → Lanes p (λ t. digit 4 marks t * same (digit 4 e t) 0) → r ≡ sum 16 (digit 4 p) → r ≡ zeroPlaces e marks
-unfolding zeroPlaces
-zeros-are e marks p r l f = f ∙ sum-ext 16 _ _ (λ t k. l t k)
-
--- the marked places without an error are no more than the marked places
-pub zeros-le : (e marks : ℕ) → zeroPlaces e marks ≤ sum 16 (digit 4 marks)
-unfolding zeroPlaces
-zeros-le e marks = sum-le 16 _ (digit 4 marks) (λ t k. part-le (digit 4 marks t) (same (digit 4 e t) 0) (same-le (digit 4 e t) 0))

@@ -1,14 +1,7 @@
--- The symbols of a word of four coefficients, and the places without an error.
+-- The symbols of a word of four coefficients.
 use Prim.Native.Nat.{ℕ, _+_, _*_, _%_}
-use Rattle.code_theory.specs.Sum.{sum}
 use Rattle.code_theory.specs.Index.{bit}
-use Rattle.code_theory.specs.Modular.{same}
-use Rattle.swar_theory.specs.Internal.{digit}
 
 -- symbol i of the word of the coefficients c0 to c3, with the constant 0
 unfoldable pub plain : ℕ → ℕ → ℕ → ℕ → ℕ → ℕ → ℕ
 plain q c0 c1 c2 c3 i = (c0 * bit 0 i + c1 * bit 1 i + c2 * bit 2 i + c3 * bit 3 i) % q
-
--- how many marked lanes of e are 0
-unfoldable pub zeroPlaces : ℕ → ℕ → ℕ
-zeroPlaces e marks = sum 16 (λ t. digit 4 marks t * same (digit 4 e t) 0)

@@ -3,17 +3,16 @@
 ghost use mathlib.Core.Path.{_≡_};
 ghost use mathlib.Core.Bool.{true};
 ghost use Prim.Native.Nat.{_+_, _*_, _%_, _<_};
-ghost use Rattle.code_theory.specs.Sum.{sum};
 ghost use Rattle.code_theory.specs.Modular.{subMod};
 ghost use Rattle.code_theory.specs.Question.{isAlphabet};
 ghost use Rattle.swar_theory.specs.Internal.{digit};
-ghost use Rattle.swar_lanes.specs.Internal.{offset, Lanes, Below};
+ghost use Rattle.swar_lanes.specs.Internal.{offset, Lanes, LanesBelow};
 ghost use Rattle.swar_count.specs.Internal.{Mask};
-ghost use Rattle.decode_short_errors.specs.Internal.{plain, zeroPlaces};
+ghost use Rattle.decode_short_errors.specs.Internal.{plain};
 
 // The lanes of c, plus a in each lane that is marked, modulo q.
 fn plus(q: u64, c: u64, a: u64, marks: u64) -> u64
-    requires { ⌜ (isAlphabet q ≡ true) × Below q c × (a < q) × Mask marks ⌝ }
+    requires { ⌜ (isAlphabet q ≡ true) × LanesBelow q c × (a < q) × Mask marks ⌝ }
     ensures { λ r. ⌜ Lanes r (λ t. (digit 4 c t + a * digit 4 marks t) % q) ⌝ }
 {
     (c + a * marks) & ((q - 1) * 0x1111_1111_1111_1111)
@@ -32,16 +31,8 @@ pub fn code(q: u64, c0: u64, c1: u64, c2: u64, c3: u64) -> u64
 
 // The word minus the code minus the constant, modulo q: 0 in every place that is as it was sent.
 pub fn errors(q: u64, x: u64, code: u64, a: u64) -> u64
-    requires { ⌜ (isAlphabet q ≡ true) × Below q x × Below q code × (a < q) ⌝ }
+    requires { ⌜ (isAlphabet q ≡ true) × LanesBelow q x × LanesBelow q code × (a < q) ⌝ }
     ensures { λ r. ⌜ Lanes r (λ t. subMod q (subMod q (digit 4 x t) (digit 4 code t)) a) ⌝ }
 {
     swar_lanes::less(q, swar_lanes::less(q, x, code), a * 0x1111_1111_1111_1111)
-}
-
-// How many of the marked places have no error. Fewer than 15 places are marked.
-pub fn right(e: u64, marks: u64) -> u32
-    requires { ⌜ Below 8 e × Mask marks × (sum 16 (digit 4 marks) < 15) ⌝ }
-    ensures { λ r. ⌜ r ≡ zeroPlaces e marks ⌝ }
-{
-    swar_count::total(swar_count::equal(e, 0, marks))
 }

@@ -1,5 +1,5 @@
 -- The votes in lanes are those of the places that the lanes hold. Assumes nothing.
-use Prim.Native.Nat.{ℕ, zero, suc, _+_, _*_, _-_, _%_, _^_, _≤_, _<_}
+use Prim.Native.Nat.{ℕ, zero, suc, _+_, _*_, _%_, _^_, _≤_, _<_}
 use mathlib.Core.Path.{_≡_, refl, ap, ap₂, sym, _∙_}
 use mathlib.Core.List.{List}
 use native.Mathlib.Omega.{arith}
@@ -8,8 +8,8 @@ use Rattle.code_theory.specs.Sum.{sum, tabulate, at}
 use Rattle.code_theory.specs.Index.{bit, ifClear}
 use Rattle.code_theory.specs.Modular.{subMod, same}
 use Rattle.code_theory.specs.Vote.{count, vote, votes}
-use Rattle.code_theory.proofs.SumLaws.{sum-ext, sum-const, sum-split, tabulate-at}
-use Rattle.code_theory.proofs.IndexLaws.{bit-low, partner-lt, second-low, second-set}
+use Rattle.code_theory.proofs.SumLaws.{sum-ext, sum-const, tabulate-at}
+use Rattle.code_theory.proofs.IndexLaws.{partner-lt, clear-halves, clear-first}
 use Rattle.code_theory.proofs.ModularLaws.{subMod-is, same-ne}
 use Rattle.code_theory.proofs.VoteLaws.{votes-ext}
 use Rattle.swar_theory.specs.Internal.{digit}
@@ -43,10 +43,8 @@ both-none q k f hq v hv = omega (arith, no-votes q k v hq hv)
 pub votes-both : (q k f h : ℕ) → k < 4 → (v : ℕ) → votes q 5 k (placesOf f h) v ≡ bothVotes q k f h v
 unfolding votes count bothVotes ifClear vote
 votes-both q k f h hk v =
-    sum-split 16 16 (λ i. ifClear (bit k i) (same (vote q k (placesOf f h) i) v))
-    ∙ ap₂ (λ x y. x + y)
-    (sum-ext 16 _ _ (λ i l. low i l (bit k i) refl))
-    (sum-ext 16 _ _ (λ i l. ap (λ b. ifClear b (same (vote q k (placesOf f h) (16 + i)) v)) (second-low k i hk) ∙ high i l (bit k i)))
+    clear-halves k 4 hk (λ i. same (vote q k (placesOf f h) i) v)
+    ∙ ap₂ (λ x y. x + y) (sum-ext 16 _ _ (λ i l. low i l (bit k i) refl)) (sum-ext 16 _ _ (λ i l. high i l (bit k i)))
   where
     low : (i : ℕ) → i < 16 → (b : ℕ) → bit k i ≡ b → ifClear b (same (vote q k (placesOf f h) i) v) ≡ ifClear b (same (vote q k (placeOf f) i) v)
     low i l zero z = ap₂ (λ x y. same (subMod q x y) v) (first-places f h (i + 2 ^ k) (partner-lt k 4 i hk l z)) (first-places f h i l)
@@ -58,19 +56,13 @@ votes-both q k f h hk v =
 
 -- for coefficient 4 the partner of each place in f stands in the same lane of h
 pub votes-last : (q f h v : ℕ) → votes q 5 4 (placesOf f h) v ≡ sum 16 (λ t. same (subMod q (digit 4 h t) (digit 4 f t)) v)
-unfolding votes count vote ifClear
+unfolding votes count vote
 votes-last q f h v =
-    sum-split 16 16 (λ i. ifClear (bit 4 i) (same (vote q 4 (placesOf f h) i) v))
-    ∙ ap₂ (λ x y. x + y)
-    (sum-ext 16 _ (λ i. same (subMod q (placeOf h i) (placeOf f i)) v) (λ i l. ap (λ b. ifClear b (same (vote q 4 (placesOf f h) i) v)) (bit-low 4 i l) ∙ low i l))
-    (sum-ext 16 _ (λ i. 0) (λ i l. ap (λ b. ifClear b (same (vote q 4 (placesOf f h) (16 + i)) v)) (second-set i l)))
-    ∙ drop _ _ (sum-const 16 0)
+    clear-first 4 (λ i. same (vote q 4 (placesOf f h) i) v)
+    ∙ sum-ext 16 _ (λ i. same (subMod q (placeOf h i) (placeOf f i)) v) low
     ∙ sym (offset-sum (λ i. same (subMod q (placeOf h i) (placeOf f i)) v))
     ∙ sum-ext 16 _ _ (λ t l. ap₂ (λ x y. same (subMod q x y) v) (at-lane h t l) (at-lane f t l))
   where
-    drop : (a b : ℕ) → b ≡ 0 → a + b ≡ a
-    drop a b e = omega arith
-
     low : (i : ℕ) → i < 16 → same (vote q 4 (placesOf f h) i) v ≡ same (subMod q (placeOf h i) (placeOf f i)) v
     low i l = ap₂ (λ x y. same (subMod q x y) v) (second-places f h (i + 16) i (omega arith)) (first-places f h i l)
 

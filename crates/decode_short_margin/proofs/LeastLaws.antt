@@ -11,7 +11,7 @@ use Rattle.code_theory.proofs.MarginLaws.{least-ext}
 use Rattle.code_theory.proofs.ErrorLaws.{sumFrom1-ext, maxFrom1-ext, lead-zero}
 use Rattle.code_theory.specs.Internal.{sumFrom1, maxFrom1}
 use Rattle.code_theory.proofs.WordLaws.{bounds}
-use Rattle.swar_lanes.specs.Internal.{Below, placeOf, placesOf}
+use Rattle.swar_lanes.specs.Internal.{LanesBelow, placeOf, placesOf}
 use Rattle.swar_lanes.proofs.LaneLaws.{none-below}
 use Rattle.swar_count.specs.Internal.{lanesEqual}
 use Rattle.decode_short_margin.specs.Internal.{bothVotes, leadBy, Errors}
@@ -31,8 +31,8 @@ unfolding leadBy
 lead-same q half r f g e k = k ∙ leadBy-ext q half f g e
 
 -- THE LEAD of the votes in the lanes of x: what `decode_short_lead::lead` requires, and what it ensures
-module _ (q half x : ℕ) (g : ℕ → ℕ) (a : isAlphabet q ≡ true) (b : Below q x) (e : (v : ℕ) → lanesEqual x v ≡ g v) (s : half ≤ 16) (few : 2 * sumFrom1 (q - 1) g ≤ half) where
-  pub lead-room : Below q x × (2 ≤ q) × (q ≤ 8) × (sumFrom1 (q - 1) (lanesEqual x) < 15) × (2 * sumFrom1 (q - 1) (lanesEqual x) ≤ half)
+module _ (q half x : ℕ) (g : ℕ → ℕ) (a : isAlphabet q ≡ true) (b : LanesBelow q x) (e : (v : ℕ) → lanesEqual x v ≡ g v) (s : half ≤ 16) (few : 2 * sumFrom1 (q - 1) g ≤ half) where
+  pub lead-room : LanesBelow q x × (2 ≤ q) × (q ≤ 8) × (sumFrom1 (q - 1) (lanesEqual x) < 15) × (2 * sumFrom1 (q - 1) (lanesEqual x) ≤ half)
   lead-room =
       let l = few-same q half (lanesEqual x) g (λ v _. e v) few in
       (b, bounds q a .0, bounds q a .1, omega (arith, l, s), l)
@@ -46,7 +46,7 @@ unfolding least
 least-four g a b c d r1 r2 r3 ea eb e1 ec e2 ed e3 = omega arith
 
 -- 16 PLACES: the second number has no wrong vote
-pub errors-16 : (q half f : ℕ) → 8 ≤ half → half ≤ 16 → isAlphabet q ≡ true → Below q f
+pub errors-16 : (q half f : ℕ) → 8 ≤ half → half ≤ 16 → isAlphabet q ≡ true → LanesBelow q f
     → ((k : ℕ) → k < 4 → sumFrom1 (q - 1) (votes q 4 k (placeOf f)) < 4) → Errors q half f 0
 errors-16 q half f h s a bf l = record {
   alphabet = a;
@@ -63,7 +63,7 @@ margin-16-is q f r a e =
     (λ k l. leadBy-ext q 8 (bothVotes q k f 0) (votes q 4 k (placeOf f)) (both-none q k f (alphabet-positive q a)) ∙ sym (lead-zero q 4 k (placeOf f) (alphabet-positive q a) l))
 
 -- 32 PLACES: for the coefficients 0 to 3 the votes are those of each number
-pub errors-32 : (q f h : ℕ) → isAlphabet q ≡ true → Below q f → Below q h → ((k : ℕ) → k < 5 → sumFrom1 (q - 1) (votes q 5 k (placesOf f h)) < 8) → Errors q 16 f h
+pub errors-32 : (q f h : ℕ) → isAlphabet q ≡ true → LanesBelow q f → LanesBelow q h → ((k : ℕ) → k < 5 → sumFrom1 (q - 1) (votes q 5 k (placesOf f h)) < 8) → Errors q 16 f h
 errors-32 q f h a bf bh l = record {
   alphabet = a;
   first = bf;

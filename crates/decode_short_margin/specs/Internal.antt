@@ -5,7 +5,7 @@ use mathlib.Core.Bool.{true}
 use Rattle.code_theory.specs.Vote.{votes}
 use Rattle.code_theory.specs.Question.{isAlphabet}
 use Rattle.code_theory.specs.Internal.{sumFrom1, maxFrom1}
-use Rattle.swar_lanes.specs.Internal.{Below, placeOf}
+use Rattle.swar_lanes.specs.Internal.{LanesBelow, placeOf}
 
 -- how many of the votes for coefficient k, below 4, of the places in both numbers are v
 unfoldable pub bothVotes : ℕ → ℕ → ℕ → ℕ → ℕ → ℕ
@@ -18,7 +18,7 @@ leadBy q half g = half - sumFrom1 (q - 1) g - maxFrom1 (q - 1) g
 -- f and h hold symbols, and at most half of the votes for each of the coefficients 0 to 3 are wrong
 pub record Errors (q half f h : ℕ) : Type 0 where
   pub alphabet : isAlphabet q ≡ true
-  pub first : Below q f
-  pub second : Below q h
+  pub first : LanesBelow q f
+  pub second : LanesBelow q h
   pub size : half ≤ 16
   pub few : (k : ℕ) → k < 4 → 2 * sumFrom1 (q - 1) (bothVotes q k f h) ≤ half

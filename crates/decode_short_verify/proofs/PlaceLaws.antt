@@ -1,11 +1,11 @@
 -- Words of up to 16 places in lanes, and their errors place by place. Assumes nothing.
 use Prim.Native.Nat.{ℕ, zero, suc, _+_, _*_, _/_, _%_, _≤_, _<_}
 use mathlib.Core.Path.{_≡_, refl, ap, sym, _∙_}
-use mathlib.Core.List.{List, [], _∷_}
+use mathlib.Core.List.{List}
 use native.Mathlib.Decide.{decLt}
 use native.Mathlib.Omega.{arith}
 use native.Mathlib.Nat.{mod-add-mod, div-eq-of-lt, add-comm, zero-add, mod-eq-of-lt}
-use lib.ListN.{length}
+use lib.ListN.{length, List·getD-eq-default}
 use Rattle.code_theory.specs.Sum.{sum, at}
 use Rattle.code_theory.specs.Modular.{subMod, same, differ}
 use Rattle.code_theory.proofs.ModularLaws.{subMod-lt, subMod-is, add-subMod, subMod-mod, same-eq, same-ne, differ-eq, differ-ne}
@@ -13,13 +13,7 @@ use Rattle.swar_theory.specs.Internal.{digit}
 use Rattle.swar_theory.proofs.DigitLaws.{digit-past, digit-even, digit-odd}
 use Rattle.swar_bytes.specs.Internal.{Holds, from}
 use Rattle.swar_lanes.specs.Internal.{offset, Lanes, Low, Held}
-use Rattle.decode_short_errors.specs.Internal.{zeroPlaces}
-
--- past its end a list has 0
-pub past : (w : List ℕ) (i : ℕ) → length w ≤ i → at w i ≡ 0
-past [] i h = refl
-past (x ∷ w) zero h = absurd (omega arith)
-past (x ∷ w) (suc i) h = past w i (omega arith)
+use Rattle.swar_count.specs.Internal.{markedEqual}
 
 -- where the symbols of a word fit a lane, so does 0 past its end
 all-low : (w : List ℕ) → Low w → (l : ℕ) → at w l < 16
@@ -27,7 +21,7 @@ all-low w low l = go (decLt l (length w))
   where
     go : Dec (l < length w) → at w l < 16
     go (yes k) = low l k
-    go (no k) = omega (arith, past w l (omega arith))
+    go (no k) = omega (arith, List·getD-eq-default w 0 {n = l} (omega arith))
 
 -- EIGHT PLACES or fewer that stand in the bytes of a number stand in its even lanes
 pub held-bytes : (w : List ℕ) (x : ℕ) → length w ≤ 8 → ((l : ℕ) → l < 8 → digit 8 x l ≡ at w l) → ((l : ℕ) → at w l < 16) → Held w 0 x
@@ -44,7 +38,7 @@ held-bytes w x n h low t k = go (t / 2) (t % 2) refl refl
         let g : t ≡ 2 * l + 1 = omega arith in
         let place : 8 + l ≡ 0 + (8 * (t % 2) + t / 2) = omega arith in
         let value : at w l / 16 ≡ 0 = div-eq-of-lt (low l) in
-        ap (digit 4 x) g ∙ digit-odd 4 x l ∙ ap (λ z. z / 16) (h l (omega arith)) ∙ value ∙ sym (past w (8 + l) (omega arith)) ∙ ap (at w) place
+        ap (digit 4 x) g ∙ digit-odd 4 x l ∙ ap (λ z. z / 16) (h l (omega arith)) ∙ value ∙ sym (List·getD-eq-default w 0 {n = 8 + l} (omega arith)) ∙ ap (at w) place
     go l (suc (suc p)) e f = absurd (omega arith)
 
 -- ERRORS: minus the code and then minus the constant is minus the word of the message
@@ -75,8 +69,8 @@ module _ (e : ℕ) (f : ℕ → ℕ) (l : Lanes e (λ t. f (offset t))) where
   at-lane : (t i : ℕ) → t < 16 → offset t ≡ i → same (digit 4 e t) 0 ≡ same (f i) 0
   at-lane t i h k = ap (λ z. same z 0) (l t h ∙ ap f k)
 
-  pub first-four : zeroPlaces e 0x0101_0101 + sum 4 (λ i. differ 0 (f i)) ≡ 4
-  unfolding zeroPlaces sum digit offset
+  pub first-four : markedEqual e 0 0x0101_0101 + sum 4 (λ i. differ 0 (f i)) ≡ 4
+  unfolding markedEqual sum digit offset
   first-four =
       omega (
         arith,
@@ -90,8 +84,8 @@ module _ (e : ℕ) (f : ℕ → ℕ) (l : Lanes e (λ t. f (offset t))) where
         right-or-wrong (f 3),
       )
 
-  pub first-eight : zeroPlaces e 0x0101_0101_0101_0101 + sum 8 (λ i. differ 0 (f i)) ≡ 8
-  unfolding zeroPlaces sum digit offset
+  pub first-eight : markedEqual e 0 0x0101_0101_0101_0101 + sum 8 (λ i. differ 0 (f i)) ≡ 8
+  unfolding markedEqual sum digit offset
   first-eight =
       omega (
         arith,
@@ -113,8 +107,8 @@ module _ (e : ℕ) (f : ℕ → ℕ) (l : Lanes e (λ t. f (offset t))) where
         right-or-wrong (f 7),
       )
 
-  pub second-eight : zeroPlaces e 0x1010_1010_1010_1010 + sum 8 (λ i. differ 0 (f (8 + i))) ≡ 8
-  unfolding zeroPlaces sum digit offset
+  pub second-eight : markedEqual e 0 0x1010_1010_1010_1010 + sum 8 (λ i. differ 0 (f (8 + i))) ≡ 8
+  unfolding markedEqual sum digit offset
   second-eight =
       omega (
         arith,
@@ -145,4 +139,4 @@ held-four w x e low h = held-bytes w x (omega (arith, e)) (λ l k. go l (decLt l
   where
     go : (l : ℕ) → Dec (l < 4) → digit 8 x l ≡ at w l
     go l (yes k) = h .each l k ∙ ap (at w) (zero-add l)
-    go l (no k) = digit-past 8 4 x l (h .fits) (omega arith) ∙ sym (past w l (omega (arith, e)))
+    go l (no k) = digit-past 8 4 x l (h .fits) (omega arith) ∙ sym (List·getD-eq-default w 0 {n = l} (omega (arith, e)))

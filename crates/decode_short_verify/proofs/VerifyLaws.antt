@@ -8,6 +8,7 @@ use native.Mathlib.Omega.{arith}
 use native.Mathlib.Nat.{zero-add, mod-add-mod}
 use borrow.Author.Tests.{ltb-true, leb-true}
 use lib.Dec.{leb, ltb}
+use lib.ListN.{List·getD-eq-default}
 use lib.Pow.{pow-mono}
 use Rattle.code_theory.specs.Sum.{sum, every, at}
 use Rattle.code_theory.specs.Index.{bit}
@@ -23,16 +24,16 @@ use Rattle.code_theory.proofs.ModularLaws.{subMod-lt}
 use Rattle.code_theory.proofs.ErrorLaws.{error-distance}
 use Rattle.code_theory.specs.Internal.{error, WellFormed}
 use Rattle.swar_theory.specs.Internal.{digit}
-use Rattle.swar_lanes.specs.Internal.{offset, laneOf, Lanes, Below, Held, placeOf, placesOf}
+use Rattle.swar_lanes.specs.Internal.{offset, laneOf, Lanes, LanesBelow, Held, placeOf, placesOf}
 use Rattle.code_theory.proofs.WordLaws.{bounds}
-use Rattle.swar_count.specs.Internal.{Mask}
-use Rattle.decode_short_errors.specs.Internal.{plain, zeroPlaces}
-use Rattle.decode_short_errors.proofs.PlaceLaws.{mask-is, zeros-le}
+use Rattle.swar_count.specs.Internal.{Mask, markedEqual}
+use Rattle.swar_count.proofs.EqualLaws.{mask-is, marked-le}
+use Rattle.decode_short_errors.specs.Internal.{plain}
 use Rattle.decode_short_candidate.specs.Internal.{message, messageOf, OnlyCandidate, CandidateOf, CandidateOfBoth}
 use Rattle.decode_short_candidate.specs.declared.Candidate.{Candidate}
 use Rattle.swar_lanes.proofs.LaneLaws.{lane-lt, lane-place, at-lane, first-places, second-places}
 use Rattle.decode_short_verify.specs.Internal.{Left, Verifies}
-use Rattle.decode_short_verify.proofs.PlaceLaws.{past, left, first-four, first-eight, second-eight}
+use Rattle.decode_short_verify.proofs.PlaceLaws.{left, first-four, first-eight, second-eight}
 
 -- SIXTEEN PLACES minus the word of a message
 pub left-is : (q x a c0 c1 c2 c3 code r : ℕ) → 0 < q → Lanes code (λ t. plain q c0 c1 c2 c3 (offset t))
@@ -43,7 +44,7 @@ left-is q x a c0 c1 c2 c3 code r h e f t k =
     ∙ left q (digit 4 x t) a (c0 * bit 0 (offset t) + c1 * bit 1 (offset t) + c2 * bit 2 (offset t) + c3 * bit 3 (offset t)) h
     ∙ ap (λ z. subMod q (digit 4 x t) ((a + (z + c1 * bit 1 (offset t) + c2 * bit 2 (offset t) + c3 * bit 3 (offset t))) % q)) (sym (zero-add (c0 * bit 0 (offset t))))
 
-pub left-below : (q x a c0 c1 c2 c3 r : ℕ) → 0 < q → Left q x a c0 c1 c2 c3 r → Below q r
+pub left-below : (q x a c0 c1 c2 c3 r : ℕ) → 0 < q → Left q x a c0 c1 c2 c3 r → LanesBelow q r
 left-below q x a c0 c1 c2 c3 r h l t k = omega (arith, l t k, subMod-lt q (digit 4 x t) (symbolAt q 4 (at (message a c0 c1 c2 c3 0)) (offset t)) h)
 
 pub symbol-low : (q m n : ℕ) (s : ℕ → ℕ) (i : ℕ) → m ≤ n → i < 2 ^ m → symbolAt q n s i ≡ symbolAt q m s i
@@ -55,8 +56,8 @@ pub symbol-high : (q : ℕ) (a c0 c1 c2 c3 c4 i : ℕ) → i < 16 → symbolAt q
 unfolding symbolAt linear sum message
 symbol-high q a c0 c1 c2 c3 c4 i h =
     let c : ℕ → ℕ = λ k. at (message a c0 c1 c2 c3 c4) (suc k) in
-    let lows : linear 4 c (16 + i) ≡ linear 4 c i = sum-ext 4 _ _ (λ k l. ap (λ z. c k * z) (second-low k i l)) in
-    ap₂ (λ x y. (a + (x + c4 * y)) % q) lows (second-set i h) ∙ ap (λ z. z % q) (shift a (linear 4 c i) c4) ∙ sym (mod-add-mod (a + c4) q (linear 4 c i))
+    let lows : linear 4 c (16 + i) ≡ linear 4 c i = sum-ext 4 _ _ (λ k l. ap (λ z. c k * z) (second-low k 4 i l)) in
+    ap₂ (λ x y. (a + (x + c4 * y)) % q) lows (second-set 4 i h) ∙ ap (λ z. z % q) (shift a (linear 4 c i) c4) ∙ sym (mod-add-mod (a + c4) q (linear 4 c i))
   where
     shift : (a l c : ℕ) → a + (l + c * 1) ≡ a + c + l
     shift a l c = omega arith
@@ -77,27 +78,23 @@ place-left q x a c0 c1 c2 c3 e b w h l i k =
     l (laneOf i) (lane-lt i k)
     ∙ ap₂ (subMod q) (h (laneOf i) (lane-lt i k) ∙ ap (λ z. at w (b + z)) (lane-place i k)) (ap (symbolAt q 4 (at (message a c0 c1 c2 c3 0))) (lane-place i k))
 
--- A LITERAL marks fewer than 15 places, by two computed tests
-pub marked : (c : ℕ) → every 16 (λ t. ltb (digit 4 c t) 2) ≡ true → ltb (sum 16 (digit 4 c)) 15 ≡ true → Mask c × (sum 16 (digit 4 c) < 15)
-marked c e f = (mask-is c e, ltb-true (sum 16 (digit 4 c)) 15 f)
-
--- WHAT `right` REQUIRES of errors below q and of a literal that marks fewer than 15 places
-pub right-asks : (q x c : ℕ) → isAlphabet q ≡ true → Below q x → every 16 (λ t. ltb (digit 4 c t) 2) ≡ true → ltb (sum 16 (digit 4 c)) 15 ≡ true
-    → Below 8 x × Mask c × (sum 16 (digit 4 c) < 15)
-right-asks q x c a h e f = (λ t k. omega (arith, h t k, bounds q a), marked c e f .0, marked c e f .1)
+-- WHAT THE COUNT of the places without an error requires: symbols below 8, and a literal that marks fewer than 15 places
+pub count-asks : (e v c : ℕ) → LanesBelow 8 e → ltb v 8 ≡ true → every 16 (λ t. ltb (digit 4 c t) 2) ≡ true → ltb (sum 16 (digit 4 c)) 15 ≡ true
+    → LanesBelow 8 e × (v < 8) × Mask c × (markedEqual e v c < 15)
+count-asks e v c h l t f = (h, ltb-true v 8 l, mask-is c t, omega (arith, marked-le e v c, ltb-true (sum 16 (digit 4 c)) 15 f))
 
 -- where n places or fewer are marked, n or fewer have no error
-pub right-le : (e c n y : ℕ) → leb (sum 16 (digit 4 c)) n ≡ true → y ≡ zeroPlaces e c → y ≤ n
-right-le e c n y l f = omega (arith, f, leb-true (sum 16 (digit 4 c)) n l, zeros-le e c)
+pub count-le : (e v c n y : ℕ) → leb (sum 16 (digit 4 c)) n ≡ true → y ≡ markedEqual e v c → y ≤ n
+count-le e v c n y l f = omega (arith, f, leb-true (sum 16 (digit 4 c)) n l, marked-le e v c)
 
 -- HOW MANY PLACES have an error
-pub wrong-4 : (e y : ℕ) → y ≡ zeroPlaces e 0x0101_0101 → 4 - y ≡ sum (2 ^ 2) (λ i. differ 0 (placeOf e i))
+pub wrong-4 : (e y : ℕ) → y ≡ markedEqual e 0 0x0101_0101 → 4 - y ≡ sum (2 ^ 2) (λ i. differ 0 (placeOf e i))
 wrong-4 e y f = omega (arith, first-four e (placeOf e) (place-lanes e), f)
 
-pub wrong-8 : (e y : ℕ) → y ≡ zeroPlaces e 0x0101_0101_0101_0101 → 8 - y ≡ sum (2 ^ 3) (λ i. differ 0 (placeOf e i))
+pub wrong-8 : (e y : ℕ) → y ≡ markedEqual e 0 0x0101_0101_0101_0101 → 8 - y ≡ sum (2 ^ 3) (λ i. differ 0 (placeOf e i))
 wrong-8 e y f = omega (arith, first-eight e (placeOf e) (place-lanes e), f)
 
-pub wrong-16 : (e r y z : ℕ) → y ≡ zeroPlaces e 0x0101_0101_0101_0101 → z ≡ zeroPlaces e 0x1010_1010_1010_1010 → r ≡ 16 - y - z
+pub wrong-16 : (e r y z : ℕ) → y ≡ markedEqual e 0 0x0101_0101_0101_0101 → z ≡ markedEqual e 0 0x1010_1010_1010_1010 → r ≡ 16 - y - z
     → (r ≡ sum 16 (λ i. differ 0 (placeOf e i))) × (r ≤ 16)
 wrong-16 e r y z f g h =
     let a = first-eight e (placeOf e) (place-lanes e) in
@@ -111,12 +108,12 @@ word-below q m w r i = go (decLt i (2 ^ m))
   where
     go : Dec (i < 2 ^ m) → at w i < q
     go (yes l) = r .symbols .below i l
-    go (no l) = omega (arith, past w i (omega (arith, r .symbols .size, l)), bounds q (r .alphabet))
+    go (no l) = omega (arith, List·getD-eq-default w 0 {n = i} (omega (arith, r .symbols .size, l)), bounds q (r .alphabet))
 
-pub held-below : (q m : ℕ) (w : List ℕ) (b x : ℕ) → WellFormed q m w → Held w b x → Below q x
+pub held-below : (q m : ℕ) (w : List ℕ) (b x : ℕ) → WellFormed q m w → Held w b x → LanesBelow q x
 held-below q m w b x r h t k = omega (arith, h t k, word-below q m w r (b + offset t))
 
-pub below-eight : (q x : ℕ) → isAlphabet q ≡ true → Below q x → Below 8 x
+pub below-eight : (q x : ℕ) → isAlphabet q ≡ true → LanesBelow q x → LanesBelow 8 x
 below-eight q x a h t k = omega (arith, h t k, bounds q a)
 
 -- the symbols of a candidate are below q
@@ -128,7 +125,7 @@ symbols-below q m w a c0 c1 c2 c3 c4 g =
 
 -- WHAT `left` REQUIRES of a candidate g of w, and of the places of w that x holds
 pub left-asks : (q m : ℕ) (w : List ℕ) (b x : ℕ) (g : Candidate) → WellFormed q m w → Held w b x → OnlyCandidate q m w (messageOf g)
-    → (isAlphabet q ≡ true) × Below q x × (g .constant < q) × (g .c0 < q) × (g .c1 < q) × (g .c2 < q) × (g .c3 < q)
+    → (isAlphabet q ≡ true) × LanesBelow q x × (g .constant < q) × (g .c0 < q) × (g .c1 < q) × (g .c2 < q) × (g .c3 < q)
 left-asks q m w b x g r h o = let (a, c0, c1, c2, c3, c4) = symbols-below q m w _ _ _ _ _ _ o in (r .alphabet, held-below q m w b x r h, a, c0, c1, c2, c3)
 
 -- ONE NUMBER verified: g is the candidate of a word of m variables, m up to 4, and e has the errors of its places

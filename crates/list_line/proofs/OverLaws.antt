@@ -1,7 +1,7 @@
--- A listing's session is sound, and a line ends the reading exactly after 65,536 slots. Assumes nothing.
+-- A listing's session is sound, and a slot or a miss ends the reading, with `over`, exactly after 65,536 slots. Assumes nothing.
 use Prim.Native.Nat.{ℕ, zero, suc}
 use mathlib.Core.Path.{_≡_, refl, subst, _∙_}
-use mathlib.Core.Bool.{Bool, true, false, not, cond}
+use mathlib.Core.Bool.{Bool, true, false, not, cond, false≢true}
 use mathlib.Core.List.{List}
 use native.Mathlib.Omega.{arith}
 use borrow.Author.Tests.{eqb-true, lt-ltb}
@@ -10,14 +10,14 @@ use lib.ListN.{length}
 use Rattle.code_theory.specs.Nearest.{isReadable}
 use Rattle.code_theory.specs.Question.{ask, isAlphabet, isVariables, isMessageSize, isWordSize, allBelow, after}
 use Rattle.code_theory.proofs.QuestionLaws.{below-all}
-use Rattle.session_slot.specs.Slot.{slots}
+use Rattle.session_slot.specs.Slot.{slots, slotTime}
 use Rattle.session_receiver.specs.Receiving.{isBelow, isMissing, soundReceiver, receiveRefusal, receiveConstant, receiveSession, afterReceive, nextReceiver, missRefusal, missSession}
 use Rattle.session_reference.specs.declared.Reference.the-variants.{Held, Missing}
 use Rattle.session_receiver.specs.declared.Receiver.{Receiver}
 use Rattle.session_receiver.proofs.SoundLaws.{receive-yes, receive-doubtful, miss-yes, constant-below, receiver-next}
 use Rattle.text_lines.specs.Line.{Line, slot, miss, bad, isSlot, wordOf}
 use Rattle.text_lines.proofs.LineLaws.{slot-size, slot-digits, digit-at, word-at, word-length}
-use Rattle.list_line.specs.Listing.{blank, lineSession, lineEnds, opened}
+use Rattle.list_line.specs.Listing.{doubtfulText, missedText, overText, blank, deliveryText, lineText, lineSession, lineEnds, opened}
 use Rattle.list_line.proofs.SlotLaws.{told-bad}
 
 -- the session that is opened is sound, and each line leaves a sound one
@@ -71,3 +71,19 @@ miss-over s e = rw e (by (ltb (s .used) slots))
     by : (a : Bool) → after (ask a 4 0) false true ≡ not a
     by true = refl
     by false = refl
+
+-- a line that ends the reading prints `over`
+pub ends-over : (s : Receiver) (line : Line) → lineEnds s line ≡ true → lineText s line ≡ overText
+unfolding lineEnds lineText afterReceive after
+ends-over s (slot w) e = by (eqb (receiveRefusal s blank w) 9) (receiveRefusal s blank w) e
+  where
+    by : (t : Bool) (n : ℕ) → cond t false (after n false true) ≡ true → cond t (doubtfulText (slotTime (s .used))) (after n (deliveryText s w) overText) ≡ overText
+    by true n e = absurd (false≢true e)
+    by false zero e = absurd (false≢true e)
+    by false (suc n) e = refl
+ends-over s miss e = by (missRefusal s) e
+  where
+    by : (n : ℕ) → after n false true ≡ true → after n (missedText (slotTime (s .used))) overText ≡ overText
+    by zero e = absurd (false≢true e)
+    by (suc n) e = refl
+ends-over s bad e = absurd (false≢true e)

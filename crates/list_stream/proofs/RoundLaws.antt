@@ -15,7 +15,7 @@ use Rattle.text_chunks.specs.declared.Next.{Next}
 use Rattle.text_chunks.specs.declared.Next.the-variants.{End}
 use Rattle.text_chunks.specs.Chunks.{Progress, fed, fedText, fedCount, fedPart, endText}
 use Rattle.text_chunks.specs.Reading.{given, afterFailure, afterPart}
-use Rattle.text_chunks.specs.Internal.{placeOf}
+use Rattle.text_chunks.specs.Internal.{restPlace}
 use Rattle.text_chunks.proofs.CountLaws.{count-le}
 use Rattle.text_chunks.proofs.PartLaws.{remaining, remaining-drop}
 use Rattle.text_chunks.proofs.ReadingLaws.{failed-place, part-place}
@@ -79,18 +79,18 @@ module _ (error : ℤ) (l : Lister) (line line′ chunk before after : List ℕ)
 
   -- WHAT EVERY ROUND LEAVES: a lister that goes on, text within the buffer, and a place within the bytes that the read gave
   pub round-fits : (got z : ℤ) → z ≡ got → given got ≤ length chunk → n ≤ given got → Leaves z
-      → Fit (r .lister) line′ × (r .written ≤ length after) × (placeOf (r .next) ≤ given z)
-  unfolding given placeOf
+      → Fit (r .lister) line′ × (r .written ≤ length after) × (restPlace (r .next) ≤ given z)
+  unfolding given restPlace
   round-fits got z e g h t = go z (omega (arith, g, ap given e)) (omega (arith, h, ap given e)) t
     where
       go : (y : ℤ) → given y ≤ length chunk → n ≤ given y → Leaves y
-          → Fit (r .lister) line′ × (r .written ≤ length after) × (placeOf (r .next) ≤ given y)
-      go (pos zero) g h t = (t .fit, t .room, omega (arith, ap placeOf (t .then)))
+          → Fit (r .lister) line′ × (r .written ≤ length after) × (restPlace (r .next) ≤ given y)
+      go (pos zero) g h t = (t .fit, t .room, omega (arith, ap restPlace (t .then)))
       go (pos (suc k)) g h t =
           let bytes = take (suc k) chunk in
           let p = progress l line in
           let size : length bytes ≡ suc k = length-take-le (suc k) chunk g in
           let count = fedCount reader p (length before) (drop n bytes) in
           let read : n + count ≤ length bytes = omega (arith, count-le reader p (length before) (drop n bytes), length-drop n bytes, size, h) in
-          (t .fit, t .room, omega (arith, ap placeOf (t .next), part-place (r .lister .over) (n + count) (length bytes) read, size))
-      go (negsuc k) g h t = (t .fit, t .room, omega (arith, ap placeOf (t .then), failed-place error))
+          (t .fit, t .room, omega (arith, ap restPlace (t .next), part-place (r .lister .over) (n + count) (length bytes) read, size))
+      go (negsuc k) g h t = (t .fit, t .room, omega (arith, ap restPlace (t .then), failed-place error))

@@ -14,11 +14,10 @@ use Rattle.code_theory.specs.Turn.{turn, altered}
 use Rattle.code_theory.specs.Nearest.{prefixed, messages, firstOr, find, isFound, orEmpty, isNear, nearest, isReadable, nearMessage, nearDistance, nearMargin}
 use Rattle.code_theory.specs.Question.{ask, isAlphabet, isVariables, isMessageSize, isWordSize, allBelow, answer, after}
 use Rattle.session_slot.specs.Slot.{slotTime}
-use Rattle.session_sender.specs.Sending.{soundSender, sendRefusal, sendAnswer, sendConstant, sendSession, sendWord}
-use Rattle.session_receiver.specs.Receiving.{isBelow, isMissing, soundReceiver, receiveRefusal, missRefusal, receiveConstant, zoneFrom, zoneSymbol, receiveDelivery, zoneValues, deliveryValues, receiveAnswer, receiveMessage, nextReceiver, afterReceive, receiveSession, missAnswer, missSession}
+use Rattle.session_sender.specs.Sending.{newSender, soundSender, sendRefusal, sendAnswer, sendConstant, sendSession, sendWord}
+use Rattle.session_receiver.specs.Receiving.{newReceiver, isBelow, isMissing, soundReceiver, receiveRefusal, missRefusal, receiveConstant, zoneFrom, zoneSymbol, receiveDelivery, zoneValues, deliveryValues, receiveAnswer, receiveMessage, nextReceiver, afterReceive, receiveSession, missAnswer, missSession}
 use Rattle.session_history_theory.specs.Calls.{slotsOf, ifAccepted, Send, senderCall, senderSlot, senderSlots, ReceiverCall, receive, miss, read, doubtful, missed, ifReceived, receiverCall, receiverSlot, receiverSlots}
-use Rattle.session_history_theory.specs.Whole.{wordOf, LightSlot}
-use Rattle.session_history_theory.proofs.Theorem.{fresh, listening}
+use Rattle.session_history_theory.specs.Whole.{receivedWord, LightSlot}
 
 -- two words are sent, with a message of two symbols refused between them
 abbrev pub sends : List Send
@@ -28,7 +27,7 @@ sends =
     ∷ record { message = 0 ∷ 0 ∷ 1 ∷ []; word = 0 ∷ 0 ∷ 0 ∷ 0 ∷ [] }
     ∷ []
 
-pub sent-slots : senderSlots (fresh 2 2) sends
+pub sent-slots : senderSlots (newSender 2 2) sends
     ≡ record { message = 1 ∷ 1 ∷ 0 ∷ []; word = 1 ∷ 0 ∷ 1 ∷ 0 ∷ [] } ∷ record { message = 0 ∷ 0 ∷ 1 ∷ []; word = 1 ∷ 1 ∷ 0 ∷ 0 ∷ [] } ∷ []
 unfolding slotsOf ifAccepted senderCall senderSlot soundSender sendRefusal sendAnswer sendConstant sendSession sendWord ask answer after isAlphabet isVariables isMessageSize isWordSize allBelow codeword tabulate symbolAt linear sum bit
 sent-slots = refl
@@ -43,7 +42,7 @@ calls =
     ∷ receive (9 ∷ 9 ∷ 9 ∷ []) (0 ∷ 0 ∷ 0 ∷ 1 ∷ [])
     ∷ []
 
-pub received-slots : receiverSlots (listening 2 2) calls
+pub received-slots : receiverSlots (newReceiver 2 2) calls
     ≡ read (0 ∷ 1 ∷ 0 ∷ 1 ∷ []) (0 ∷ 1 ∷ 0 ∷ []) (0 ∷ 2 ∷ 0 ∷ [])
     ∷ read (0 ∷ 0 ∷ 1 ∷ 1 ∷ []) (0 ∷ 0 ∷ 1 ∷ []) (0 ∷ 0 ∷ 2 ∷ 1024 ∷ [])
     ∷ missed
@@ -57,12 +56,12 @@ none-altered : (altered 2 2 1 (at (1 ∷ 0 ∷ 1 ∷ 0 ∷ [])) (at (0 ∷ 1 ∷
 unfolding altered turn sum differ
 none-altered = (refl, refl)
 
-pub light-slot-0 : LightSlot 2 2 1 (senderSlots (fresh 2 2) sends) (receiverSlots (listening 2 2) calls) 0
+pub light-slot-0 : LightSlot 2 2 1 (senderSlots (newSender 2 2) sends) (receiverSlots (newReceiver 2 2) calls) 0
     (record { message = 1 ∷ 1 ∷ 0 ∷ []; word = 1 ∷ 0 ∷ 1 ∷ 0 ∷ [] }) (0 ∷ 1 ∷ 0 ∷ 1 ∷ [])
-unfolding wordOf
-light-slot-0 = record { sent = ap (λ l. getElem? l 0) sent-slots; received = ap (λ l. wordOf (getElem? l 0)) received-slots; light = omega (arith, none-altered .0) }
+unfolding receivedWord
+light-slot-0 = record { sent = ap (λ l. getElem? l 0) sent-slots; received = ap (λ l. receivedWord (getElem? l 0)) received-slots; light = omega (arith, none-altered .0) }
 
-pub light-slot-1 : LightSlot 2 2 1 (senderSlots (fresh 2 2) sends) (receiverSlots (listening 2 2) calls) 1
+pub light-slot-1 : LightSlot 2 2 1 (senderSlots (newSender 2 2) sends) (receiverSlots (newReceiver 2 2) calls) 1
     (record { message = 0 ∷ 0 ∷ 1 ∷ []; word = 1 ∷ 1 ∷ 0 ∷ 0 ∷ [] }) (0 ∷ 0 ∷ 1 ∷ 1 ∷ [])
-unfolding wordOf
-light-slot-1 = record { sent = ap (λ l. getElem? l 1) sent-slots; received = ap (λ l. wordOf (getElem? l 1)) received-slots; light = omega (arith, none-altered .1) }
+unfolding receivedWord
+light-slot-1 = record { sent = ap (λ l. getElem? l 1) sent-slots; received = ap (λ l. receivedWord (getElem? l 1)) received-slots; light = omega (arith, none-altered .1) }

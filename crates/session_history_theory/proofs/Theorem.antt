@@ -25,14 +25,14 @@ use Rattle.session_reference.specs.declared.Reference.{Reference}
 use Rattle.session_reference.specs.declared.Reference.the-variants.{Missing}
 use Rattle.session_reference.specs.declared.Zone.the-variants.{Known, Unknown}
 use Rattle.session_slot.specs.Slot.{slots, slotTime}
-use Rattle.session_sender.specs.Sending.{openSender, sendRefusal, sendConstant}
-use Rattle.session_receiver.specs.Receiving.{openReceiver, isBelow, isMissing, receiveRefusal, missRefusal, receiveConstant, zoneFrom, zoneSymbol, receiveDelivery, deliveryValues, nextReceiver}
+use Rattle.session_sender.specs.Sending.{newSender, openSender, sendRefusal, sendConstant}
+use Rattle.session_receiver.specs.Receiving.{newReceiver, openReceiver, isBelow, isMissing, receiveRefusal, missRefusal, receiveConstant, zoneFrom, zoneSymbol, receiveDelivery, deliveryValues, nextReceiver}
 use Rattle.code_theory.proofs.QuestionLaws.{alphabet-positive}
 use Rattle.session_receiver.proofs.DeliveryLaws.{delivery-told}
 use Rattle.session_receiver.proofs.SoundLaws.{receiver-opened, receiver-sound}
 use Rattle.session_sender.proofs.SoundLaws.{sender-opened, sender-sound}
 use Rattle.session_history_theory.specs.Calls.{Send, SenderSlot, senderCall, senderSlot, senderSlots, senderAfter, ReceiverCall, ReceiverSlot, read, doubtful, missed, receiverCall, receiverSlot, receiverSlots, receiverAfter}
-use Rattle.session_history_theory.specs.Whole.{wordOf, LightSlot, Accepted, NoReference, first, afterMissed, afterDoubtful, AnswersDeliveries, ZonesAfterRead, WholeSessions}
+use Rattle.session_history_theory.specs.Whole.{receivedWord, LightSlot, Accepted, NoReference, first, afterMissed, afterDoubtful, AnswersDeliveries, ZonesAfterRead, WholeSessions}
 use Rattle.session_history_theory.proofs.Run.{before, before-next, Chain, chain, chain-made, chain-before, chain-end}
 use Rattle.session_history_theory.proofs.SenderRun.{nextSender, SentBy, sender-step, SenderAt, sender-keep}
 use Rattle.session_history_theory.proofs.ReceiverRun.{referenceAfter, nextSlot, Heard, ReceivedBy, receiver-step, ReceiverAt, receiver-keep}
@@ -116,26 +116,19 @@ module _ (q m t : ℕ) (hq : 0 < q) (x : SenderSlot) (last : ℕ) (f : SentFrom 
   light-coefficient : (k : ℕ) → at (nearMessage q m y) (suc k) ≡ at (x .message) (suc k)
   light-coefficient k = ap (λ l. at l (suc k)) light-message ∙ getD-set-other (x .message) 0 (suc k) constant 0 (λ e. omega (arith, e))
 
--- the sessions that the openings return
-abbrev pub fresh : ℕ → ℕ → Sender
-fresh q m = record { q = q; m = m; last = 0; used = 0 }
-
-abbrev pub listening : ℕ → ℕ → Receiver
-listening q m = record { q = q; m = m; reference = Missing; used = 0 }
-
 module _ (q m : ℕ) (alphabet : isAlphabet q ≡ true) (variables : isVariables m ≡ true) (sends : List Send) where
   -- the slots of the strap, and the session before slot j
   abbrev strap : List SenderSlot
-  strap = senderSlots (fresh q m) sends
+  strap = senderSlots (newSender q m) sends
 
   abbrev senderBefore : ℕ → Sender
-  senderBefore = before nextSender (fresh q m) strap
+  senderBefore = before nextSender (newSender q m) strap
 
-  strap-chain : Chain senderCall senderSlot nextSender SentBy (fresh q m) strap (senderAfter (fresh q m) sends)
-  strap-chain = chain senderCall senderSlot nextSender SentBy sender-step (fresh q m) sends
+  strap-chain : Chain senderCall senderSlot nextSender SentBy (newSender q m) strap (senderAfter (newSender q m) sends)
+  strap-chain = chain senderCall senderSlot nextSender SentBy sender-step (newSender q m) sends
 
-  fresh-at : SenderAt q m 0 (fresh q m)
-  fresh-at =
+  new-sender-at : SenderAt q m 0 (newSender q m)
+  new-sender-at =
       record {
         isQ = refl;
         isM = refl;
@@ -144,43 +137,43 @@ module _ (q m : ℕ) (alphabet : isAlphabet q ≡ true) (variables : isVariables
       }
 
   sender-at : (j : ℕ) (x : SenderSlot) → getElem? strap j ≡ some x → SenderAt q m j (senderBefore j)
-  sender-at j x e = rw zero-add at (chain-before senderCall senderSlot nextSender SentBy (SenderAt q m) (sender-keep q m) 0 (fresh q m) strap _ strap-chain fresh-at j x e)
+  sender-at j x e = rw zero-add at (chain-before senderCall senderSlot nextSender SentBy (SenderAt q m) (sender-keep q m) 0 (newSender q m) strap _ strap-chain new-sender-at j x e)
 
-  sender-end : SenderAt q m (length strap) (senderAfter (fresh q m) sends)
-  sender-end = rw zero-add at (chain-end senderCall senderSlot nextSender SentBy (SenderAt q m) (sender-keep q m) 0 (fresh q m) strap _ strap-chain fresh-at)
+  sender-end : SenderAt q m (length strap) (senderAfter (newSender q m) sends)
+  sender-end = rw zero-add at (chain-end senderCall senderSlot nextSender SentBy (SenderAt q m) (sender-keep q m) 0 (newSender q m) strap _ strap-chain new-sender-at)
 
   strap-sent : (j : ℕ) (x : SenderSlot) → getElem? strap j ≡ some x → SentFrom q m (senderBefore j .last) x
-  strap-sent j x e = sent-from q m j (senderBefore j) x (sender-at j x e) (chain-made senderCall senderSlot nextSender SentBy (fresh q m) strap _ strap-chain j x e)
+  strap-sent j x e = sent-from q m j (senderBefore j) x (sender-at j x e) (chain-made senderCall senderSlot nextSender SentBy (newSender q m) strap _ strap-chain j x e)
 
   -- a slot's constant is the last one before the next slot
   strap-last : (i : ℕ) (x : SenderSlot) → getElem? strap i ≡ some x → senderBefore (suc i) .last ≡ (senderBefore i .last + at (x .message) 0) % q
   unfolding nextSender sendConstant
   strap-last i x e =
-      ap (λ s. s .last) (before-next nextSender (fresh q m) strap i x e) ∙ ap (λ a. (senderBefore i .last + at (x .message) 0) % a) (sender-at i x e .isQ)
+      ap (λ s. s .last) (before-next nextSender (newSender q m) strap i x e) ∙ ap (λ a. (senderBefore i .last + at (x .message) 0) % a) (sender-at i x e .isQ)
 
 module _ (q m : ℕ) (alphabet : isAlphabet q ≡ true) (variables : isVariables m ≡ true) (calls : List ReceiverCall) where
   -- the slots of the launch, and the session before slot j
   abbrev launch : List ReceiverSlot
-  launch = receiverSlots (listening q m) calls
+  launch = receiverSlots (newReceiver q m) calls
 
   abbrev receiverBefore : ℕ → Receiver
-  receiverBefore = before nextSlot (listening q m) launch
+  receiverBefore = before nextSlot (newReceiver q m) launch
 
-  launch-chain : Chain receiverCall receiverSlot nextSlot ReceivedBy (listening q m) launch (receiverAfter (listening q m) calls)
-  launch-chain = chain receiverCall receiverSlot nextSlot ReceivedBy receiver-step (listening q m) calls
+  launch-chain : Chain receiverCall receiverSlot nextSlot ReceivedBy (newReceiver q m) launch (receiverAfter (newReceiver q m) calls)
+  launch-chain = chain receiverCall receiverSlot nextSlot ReceivedBy receiver-step (newReceiver q m) calls
 
-  listening-at : ReceiverAt q m 0 (listening q m)
+  new-receiver-at : ReceiverAt q m 0 (newReceiver q m)
   unfolding isBelow isMissing
-  listening-at = record { isQ = refl; isM = refl; used = refl; sound = receiver-sound _ (record { alphabet = alphabet; variables = variables; reference = refl; used = omega arith; start = refl }) }
+  new-receiver-at = record { isQ = refl; isM = refl; used = refl; sound = receiver-sound _ (record { alphabet = alphabet; variables = variables; reference = refl; used = omega arith; start = refl }) }
 
   receiver-at : (j : ℕ) (z : ReceiverSlot) → getElem? launch j ≡ some z → ReceiverAt q m j (receiverBefore j)
-  receiver-at j z e = rw zero-add at (chain-before receiverCall receiverSlot nextSlot ReceivedBy (ReceiverAt q m) (receiver-keep q m) 0 (listening q m) launch _ launch-chain listening-at j z e)
+  receiver-at j z e = rw zero-add at (chain-before receiverCall receiverSlot nextSlot ReceivedBy (ReceiverAt q m) (receiver-keep q m) 0 (newReceiver q m) launch _ launch-chain new-receiver-at j z e)
 
-  receiver-end : ReceiverAt q m (length launch) (receiverAfter (listening q m) calls)
-  receiver-end = rw zero-add at (chain-end receiverCall receiverSlot nextSlot ReceivedBy (ReceiverAt q m) (receiver-keep q m) 0 (listening q m) launch _ launch-chain listening-at)
+  receiver-end : ReceiverAt q m (length launch) (receiverAfter (newReceiver q m) calls)
+  receiver-end = rw zero-add at (chain-end receiverCall receiverSlot nextSlot ReceivedBy (ReceiverAt q m) (receiver-keep q m) 0 (newReceiver q m) launch _ launch-chain new-receiver-at)
 
   launch-heard : (j : ℕ) (z : ReceiverSlot) → getElem? launch j ≡ some z → Heard (receiverBefore j) z
-  launch-heard j z e = chain-made receiverCall receiverSlot nextSlot ReceivedBy (listening q m) launch _ launch-chain j z e .heard
+  launch-heard j z e = chain-made receiverCall receiverSlot nextSlot ReceivedBy (newReceiver q m) launch _ launch-chain j z e .heard
 
   -- what a slot read answered is what the session before it delivers
   launch-answer : AnswersDeliveries launch
@@ -197,7 +190,7 @@ module _ (q m : ℕ) (alphabet : isAlphabet q ≡ true) (variables : isVariables
   launch-reference : (i : ℕ) (z : ReceiverSlot) → getElem? launch i ≡ some z → receiverBefore (suc i) .reference ≡ referenceAfter q m z
   unfolding nextSlot nextReceiver
   launch-reference i z e =
-      ap (λ s. s .reference) (before-next nextSlot (listening q m) launch i z e) ∙ ap₂ (λ a c. referenceAfter a c z) (receiver-at i z e .isQ) (receiver-at i z e .isM)
+      ap (λ s. s .reference) (before-next nextSlot (newReceiver q m) launch i z e) ∙ ap₂ (λ a c. referenceAfter a c z) (receiver-at i z e .isQ) (receiver-at i z e .isM)
 
   -- the zone that a slot says, by the reference that it had
   launch-zone : (j : ℕ) (y message : List ℕ) (delivery : Delivery) → Accepted launch j y message delivery
@@ -241,10 +234,10 @@ module _ (q m t : ℕ) (alphabet : isAlphabet q ≡ true) (variables : isVariabl
     light-slot-sent = strap-sent q m alphabet variables sends j x (slot .sent)
 
     light-slot-read : (message : List ℕ) × (delivery : Delivery) × Accepted launch′ j y message delivery
-    unfolding wordOf
+    unfolding receivedWord
     light-slot-read = go (getElem? launch′ j) refl (slot .received)
       where
-        go : (o : Option ReceiverSlot) → getElem? launch′ j ≡ o → wordOf o ≡ some y → (message : List ℕ) × (delivery : Delivery) × Accepted launch′ j y message delivery
+        go : (o : Option ReceiverSlot) → getElem? launch′ j ≡ o → receivedWord o ≡ some y → (message : List ℕ) × (delivery : Delivery) × Accepted launch′ j y message delivery
         go none e w = absurd (Option·none-ne-some y w)
         go (some (read word message values)) e w =
             let h : word ≡ y = Option·some-injective word y w in
@@ -291,7 +284,7 @@ module _ (q m t : ℕ) (alphabet : isAlphabet q ≡ true) (variables : isVariabl
       ∙ ap₂ (subMod q) new (light-slot-constant i x y slot)
       ∙ subMod-turned q c d t h (f .symbols .below 0 (omega arith))
 
-  from-openings : WholeSessions q m t strap′ launch′ (senderAfter (fresh q m) sends) (receiverAfter (listening q m) calls)
+  from-openings : WholeSessions q m t strap′ launch′ (senderAfter (newSender q m) sends) (receiverAfter (newReceiver q m) calls)
   from-openings =
       let s = sender-end q m alphabet variables sends in
       let r = receiver-end q m alphabet variables calls in
@@ -315,9 +308,9 @@ module _ (q m t : ℕ) (alphabet : isAlphabet q ≡ true) (variables : isVariabl
         sendSound = send-not-3 _ (s .sound);
         receiveSound = receive-not-3 _ (r .sound);
         missSound = miss-not-3 _ (r .sound);
-        sendFull = λ message word. subst (λ n. (sendRefusal (senderAfter (fresh q m) sends) message word ≡ 4) ↔ (n ≡ slots)) (s .used) (send-full _ (s .sound) message word);
-        receiveFull = λ message word. subst (λ n. (receiveRefusal (receiverAfter (listening q m) calls) message word ≡ 4) ↔ (n ≡ slots)) (r .used) (receive-full _ (r .sound) message word);
-        missFull = subst (λ n. (missRefusal (receiverAfter (listening q m) calls) ≡ 4) ↔ (n ≡ slots)) (r .used) (miss-full _ (r .sound));
+        sendFull = λ message word. subst (λ n. (sendRefusal (senderAfter (newSender q m) sends) message word ≡ 4) ↔ (n ≡ slots)) (s .used) (send-full _ (s .sound) message word);
+        receiveFull = λ message word. subst (λ n. (receiveRefusal (receiverAfter (newReceiver q m) calls) message word ≡ 4) ↔ (n ≡ slots)) (r .used) (receive-full _ (r .sound) message word);
+        missFull = subst (λ n. (missRefusal (receiverAfter (newReceiver q m) calls) ≡ 4) ↔ (n ≡ slots)) (r .used) (miss-full _ (r .sound));
       }
 
 -- WHOLE SESSIONS: for every q and m that the openings accept, every turn t, and every two lists of calls, refused ones anywhere,

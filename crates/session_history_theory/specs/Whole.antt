@@ -20,17 +20,17 @@ use Rattle.session_receiver.specs.Receiving.{soundReceiver, receiveRefusal, mis
 use Rattle.session_history_theory.specs.Calls.{SenderSlot, ReceiverSlot, read, doubtful, missed}
 
 -- the word that a slot received; a missed slot has none, nor has one past the end
-unfoldable pub wordOf : Option ReceiverSlot → Option (List ℕ)
-wordOf none = none
-wordOf (some (read word message values)) = some word
-wordOf (some (doubtful word)) = some word
-wordOf (some missed) = none
+unfoldable pub receivedWord : Option ReceiverSlot → Option (List ℕ)
+receivedWord none = none
+receivedWord (some (read word message values)) = some word
+receivedWord (some (doubtful word)) = some word
+receivedWord (some missed) = none
 
 -- What the claim is for: a j that both lists have, where slot j of the strap is x and slot j of the launch received the word y, with
 -- 4 × altered < n.
 pub record LightSlot (q m t : ℕ) (strap : List SenderSlot) (launch : List ReceiverSlot) (j : ℕ) (x : SenderSlot) (y : List ℕ) : Type 0 where
   pub sent : getElem? strap j ≡ some x
-  pub received : wordOf (getElem? launch j) ≡ some y
+  pub received : receivedWord (getElem? launch j) ≡ some y
   pub light : 4 * altered q m t (at (x .word)) (at y) < 2 ^ m
 
 -- Slot j of the launch is a receive of y that was accepted: it left this message slice, and answered the zone, if any, wrong, margin
@@ -38,7 +38,7 @@ pub record LightSlot (q m t : ℕ) (strap : List SenderSlot) (launch : List Rece
 abbrev pub Accepted : List ReceiverSlot → ℕ → List ℕ → List ℕ → Delivery → Type 0
 Accepted launch j y message delivery = getElem? launch j ≡ some (read y message (deliveryValues delivery))
 
--- j is 0, or slot j − 1 was missed or doubtful
+-- slot j is the first, or the one before it was missed or doubtful
 pub data NoReference (launch : List ReceiverSlot) : ℕ → Type 0 where
   first : NoReference launch 0
   afterMissed : (i : ℕ) → getElem? launch i ≡ some missed → NoReference launch (suc i)
@@ -70,7 +70,7 @@ pub record WholeSessions (q m t : ℕ) (strap : List SenderSlot) (launch : List 
   pub place0 : (i : ℕ) (x : SenderSlot) (y : List ℕ) → LightSlot q m t strap launch i x y
       → (x′ : SenderSlot) (y′ : List ℕ) → LightSlot q m t strap launch (suc i) x′ y′ → (message : List ℕ) (delivery : Delivery) → Accepted launch (suc i) y′ message delivery
       → at message 0 ≡ at (x′ .message) 0
-  -- An accepted receive says that there is no zone exactly where j is 0 or slot j − 1 was missed or doubtful.
+  -- An accepted receive says that there is no zone where it is slot 0 or the slot before it was missed or doubtful, and nowhere else.
   pub noZone : (j : ℕ) (y message : List ℕ) (delivery : Delivery) → Accepted launch j y message delivery → (delivery .zone ≡ Unknown) ↔ NoReference launch j
   -- After a slot that was read, however damaged, the zone is the one of Receiving.
   pub zone : ZonesAfterRead q m launch
@@ -80,8 +80,8 @@ pub record WholeSessions (q m t : ℕ) (strap : List SenderSlot) (launch : List 
   pub time : (j : ℕ) (y message : List ℕ) (delivery : Delivery) → Accepted launch j y message delivery → delivery .time ≡ slotTime j
   -- Every slot read answered a delivery, so the sentences above speak of every accepted receive.
   pub answers : AnswersDeliveries launch
-  -- No n symbols below q differ in fewer than n/4 places from each of two words, each turned by any number of its own, whose messages have
-  -- different coefficients.
+  -- Two words whose messages differ in a coefficient, each turned by a number of its own, never both differ from one list of n symbols
+  -- below q in fewer than n/4 places.
   pub apart : (a b : List ℕ) → Symbols q (suc m) a → Symbols q (suc m) b → (k : ℕ) → k < m → at a (suc k) ≢ at b (suc k)
       → (u v : ℕ) (y : List ℕ) → Symbols q (2 ^ m) y
       → 4 * altered q m u (at (codeword q m a)) (at y) < 2 ^ m → 4 * altered q m v (at (codeword q m b)) (at y) < 2 ^ m → ⊥

@@ -9,7 +9,7 @@ ghost use mathlib.Core.Bool.{true, false};
 ghost use Prim.Native.Nat.{_≤_};
 ghost use lib.ListN.{length};
 ghost use Rattle.text_chunks.specs.Reading.{given};
-ghost use Rattle.text_chunks.specs.Internal.{placeOf, goesOn, IfRest};
+ghost use Rattle.text_chunks.specs.Internal.{restPlace, goesOn, IfRest};
 
 // Where the listing stands: what the last read gave, and its error; the place in the chunk up to which it is listed; whether it goes on.
 struct Place {
@@ -55,9 +55,9 @@ fn failed() -> Place
 
 // Does what comes next after a round on a chunk of which a read gave so many bytes.
 fn go_on(next: Next, got: isize, error: i32, chunk: &mut [u8]) -> Place
-    requires { ⌜ (given got ≤ length (now chunk)) × (placeOf next ≤ given got) ⌝ }
+    requires { ⌜ (given got ≤ length (now chunk)) × (restPlace next ≤ given got) ⌝ }
     ensures bounds { λ r. ⌜ (given (r .got) ≤ length (now (chunk .exit))) × (r .at ≤ given (r .got)) ⌝ }
-    ensures place { λ r. ⌜ (r .at ≡ placeOf next) × (r .more ≡ goesOn next) ⌝ }
+    ensures place { λ r. ⌜ (r .at ≡ restPlace next) × (r .more ≡ goesOn next) ⌝ }
     ensures rest { λ r. ⌜ IfRest next ((r .got ≡ got) × (r .error ≡ error) × (now (chunk .exit) ≡ now (chunk .entry))) ⌝ }
 {
     match next {

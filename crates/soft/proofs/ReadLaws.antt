@@ -22,6 +22,7 @@ use Rattle.soft_theory.specs.Decision.{Decision, decide, isSure, symbol}
 use Rattle.soft_theory.specs.Soft.{voteSums, coefficient, constantSums, decision, softMessage, allInRange, allSure, readRefusal, readAnswer, readMessage}
 use Rattle.soft_theory.proofs.DecisionLaws.{symbol-lt, constant-ext, all-sure}
 use Rattle.soft_vote_sums.specs.Internal.{Samples}
+use Rattle.soft_all_sums.proofs.RowLaws.{samples-by}
 use Rattle.soft_constant_sums.specs.Internal.{Coefficients, coefficientsIn}
 use Rattle.soft.specs.Internal.{sliceRefusal, sampleRefusal, sureTo, Found, constantDecision}
 
@@ -75,7 +76,7 @@ module _ (m : ℕ) (re im : List Float) where
   -- the constant's sums by what was found are those of the definition
   pub constant-found : (f : List ℕ) (z : Complex Float) (d : Decision Float) → Found m re im m f → z ≡ constantSums f32 m (coefficientsIn f) (sample f32 re im)
       → d ≡ decide f32 z → d ≡ constantDecision m re im
-  unfolding coefficientsIn constantDecision
+  unfolding coefficientsIn decision constantDecision
   constant-found f z d g e h = h ∙ ap (decide f32) (e ∙ constant-ext f32 m _ _ (sample f32 re im) (g .each))
 
   -- ---- two coefficients
@@ -90,11 +91,8 @@ module _ (m : ℕ) (re im : List Float) where
   pub both-told : (t : Bool) (f : List ℕ) → m ≡ 2 → (t ≡ sureTo 2 re im 2) × (t ≡ true → Found 2 re im 2 f) → (t ≡ sureTo m re im m) × (t ≡ true → Found m re im m f)
   both-told t f e g = rw e g
 
-  pub four-samples : m ≡ 2 → Samples m re im → Samples 2 re im
-  four-samples e s = rw e at s
-
   pub four-found : (f : List ℕ) → m ≡ 2 → Samples m re im → Found m re im m f → Samples 2 re im × Coefficients 2 f
-  four-found f e s g = (four-samples e s, rw e at (found-coefficients f g))
+  four-found f e s g = (samples-by m 2 re im e s, rw e at (found-coefficients f g))
 
   pub four-constant : (f : List ℕ) (z : Complex Float) (d : Decision Float) → m ≡ 2 → Found m re im m f → z ≡ constantSums f32 2 (coefficientsIn f) (sample f32 re im)
       → d ≡ decide f32 z → d ≡ constantDecision m re im
@@ -102,7 +100,7 @@ module _ (m : ℕ) (re im : List Float) where
 
   -- ---- whether all are sure
   all-parts : allSure f32 m (sample f32 re im) ≡ (isSure (constantDecision m re im) && sureTo m re im m)
-  unfolding sureTo constantDecision
+  unfolding sureTo decision constantDecision
   all-parts = all-sure f32 m (sample f32 re im)
 
   pub one-unsure : false ≡ sureTo m re im m → allSure f32 m (sample f32 re im) ≡ false

@@ -11,7 +11,7 @@ use Rattle.code_theory.specs.Question.{ask, isVariables}
 use Rattle.soft_theory.specs.Numbers.{f32}
 use Rattle.soft_theory.specs.Complex.{sample}
 use Rattle.soft_theory.specs.Decision.{Decision, decide, isSure}
-use Rattle.soft_theory.specs.Soft.{voteSums, coefficient, constantSums, inRange, allInRange}
+use Rattle.soft_theory.specs.Soft.{voteSums, coefficient, decision, inRange, allInRange}
 
 -- whether the first i parts of x are in range
 unfoldable pub rangeTo : List Float → ℕ → Bool
@@ -41,4 +41,4 @@ pub record Found (m : ℕ) (re im : List Float) (k : ℕ) (found : List ℕ) : T
 
 -- the decision for the constant
 unfoldable pub constantDecision : ℕ → List Float → List Float → Decision Float
-constantDecision m re im = decide f32 (constantSums f32 m (coefficient f32 m (sample f32 re im)) (sample f32 re im))
+constantDecision m re im = decision f32 m (sample f32 re im) 0

@@ -21,7 +21,7 @@ use Rattle.code_theory.proofs.QuestionLaws.{Alphabet, alphabet, alphabet-bounds
 use Rattle.code_theory.proofs.EveryLaws.{every-at}
 use Rattle.swar_theory.specs.Internal.{digit}
 use Rattle.swar_theory.proofs.DigitLaws.{digit-lt, digit-past, digit-and, digit-add, add-lt, digit-sub, sub-le, digit-times, digit-down}
-use Rattle.swar_lanes.specs.Internal.{laneBit, VotesIn, offset, laneOf, placeOf, placesOf, Lanes, Below, ClearLanes, Blend}
+use Rattle.swar_lanes.specs.Internal.{laneBit, VotesIn, offset, laneOf, placeOf, placesOf, Lanes, LanesBelow, ClearLanes, Blend}
 
 -- the lanes of a literal, by one computed test
 pub lanes-are : (x : ℕ) (f : ℕ → ℕ) → every 16 (λ t. eqb (digit 4 x t) (f t)) ≡ true → Lanes x f
@@ -122,10 +122,10 @@ pub mask-lane : (q : ℕ) → isAlphabet q ≡ true → Lanes ((q - 1) * 0x1111_
 mask-lane q a = spread-lanes (q - 1) (omega (arith, alphabet-bounds q (alphabet q a)))
 
 -- a number whose lanes are below q has no lane above 7
-pub symbols-le : (q z : ℕ) → isAlphabet q ≡ true → z < 18446744073709551616 → Below q z → z ≤ 0x7777_7777_7777_7777
+pub symbols-le : (q z : ℕ) → isAlphabet q ≡ true → z < 18446744073709551616 → LanesBelow q z → z ≤ 0x7777_7777_7777_7777
 symbols-le q z a hz b = sub-le 4 16 0x7777_7777_7777_7777 z (omega arith) hz (λ t h. omega (arith, seven-lanes t h, b t h, alphabet-bounds q (alphabet q a)))
 
-module _ (q y x : ℕ) (a : isAlphabet q ≡ true) (hy : y < 18446744073709551616) (hx : x < 18446744073709551616) (by : Below q y) (bx : Below q x) where
+module _ (q y x : ℕ) (a : isAlphabet q ≡ true) (hy : y < 18446744073709551616) (hx : x < 18446744073709551616) (by : LanesBelow q y) (bx : LanesBelow q x) where
   pub few : (2 ≤ q) × (q ≤ 8)
   few = alphabet-bounds q (alphabet q a)
 
@@ -154,11 +154,11 @@ module _ (q y x : ℕ) (a : isAlphabet q ≡ true) (hy : y < 1844674407370955161
       ∙ mask-mod q _ (alphabet q a)
       ∙ eight-more q (digit 4 y t) (digit 4 x t) (alphabet q a) (bx t h)
 
-pub less-below : (q y x r : ℕ) → isAlphabet q ≡ true → Lanes r (λ t. subMod q (digit 4 y t) (digit 4 x t)) → Below q r
+pub less-below : (q y x r : ℕ) → isAlphabet q ≡ true → Lanes r (λ t. subMod q (digit 4 y t) (digit 4 x t)) → LanesBelow q r
 less-below q y x r a d t h = omega (arith, d t h, subMod-lt q (digit 4 y t) (digit 4 x t) (omega (arith, alphabet-bounds q (alphabet q a))))
 
 -- a number moved down by s lanes has its lanes below q where the number has
-down-below : (q s x : ℕ) → isAlphabet q ≡ true → x < 18446744073709551616 → Below q x → Below q (x / 2 ^ (4 * s))
+down-below : (q s x : ℕ) → isAlphabet q ≡ true → x < 18446744073709551616 → LanesBelow q x → LanesBelow q (x / 2 ^ (4 * s))
 down-below q s x al hx b t h = go (decLt (s + t) 16)
   where
     go : Dec (s + t < 16) → digit 4 (x / 2 ^ (4 * s)) t < q
@@ -176,7 +176,7 @@ apart-code l k e h = omega (arith, pow-mono {i = l} {j = 3} (omega arith), ap (�
 pub lane-step-code : (l k : ℕ) → l ≡ laneBit k → l < 4 → ((4 * 2 ^ l) % 4294967296 ≡ 4 * 2 ^ laneBit k) × ((4 * 2 ^ l) % 4294967296 < 64)
 lane-step-code l k e h = omega (arith, pow-mono {i = l} {j = 3} (omega arith), ap (λ n. 2 ^ n) e)
 
-pub partners-below : (q k x y : ℕ) → isAlphabet q ≡ true → x < 18446744073709551616 → Below q x → y ≡ x / 2 ^ (4 * 2 ^ laneBit k) → Below q y
+pub partners-below : (q k x y : ℕ) → isAlphabet q ≡ true → x < 18446744073709551616 → LanesBelow q x → y ≡ x / 2 ^ (4 * 2 ^ laneBit k) → LanesBelow q y
 partners-below q k x y al h b e t i = omega (arith, ap (λ n. digit 4 n t) e, down-below q (2 ^ laneBit k) x al h b t i)
 
 -- the mask e keeps the votes, and clears the other lanes
@@ -194,7 +194,7 @@ pub none-lanes : Lanes 0 (λ t. 0)
 unfolding every digit
 none-lanes = lanes-are 0 (λ t. 0) refl
 
-pub none-below : (q : ℕ) → isAlphabet q ≡ true → Below q 0
+pub none-below : (q : ℕ) → isAlphabet q ≡ true → LanesBelow q 0
 none-below q al t h = omega (arith, none-lanes t h, alphabet-positive q al)
 
 -- `laneOf` and `offset` take the places below 16 to the lanes below 16 and back

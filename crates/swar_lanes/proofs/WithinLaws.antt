@@ -13,18 +13,18 @@ use Rattle.code_theory.specs.Question.{isAlphabet}
 use Rattle.code_theory.proofs.IndexLaws.{bit-lt, by-bit}
 use Rattle.swar_theory.specs.Internal.{digit}
 use Rattle.swar_theory.proofs.DigitLaws.{digit-under, digit-mod, digit-down, digit-up}
-use Rattle.swar_lanes.specs.Internal.{Lanes, Below, Blend, laneBit, place, VotesWithin}
+use Rattle.swar_lanes.specs.Internal.{Lanes, LanesBelow, Blend, laneBit, place, VotesWithin}
 use Rattle.swar_lanes.proofs.LaneLaws.{none-below}
 use Rattle.swar_lanes.proofs.SpotLaws.{lane-up, lane-down, place-low, place-high}
 
 -- a blend of two numbers whose lanes are below q has its lanes below q
-pub blend-below : (q l u v r : ℕ) → Below q u → Below q v → Blend l u v r → Below q r
+pub blend-below : (q l u v r : ℕ) → LanesBelow q u → LanesBelow q v → Blend l u v r → LanesBelow q r
 blend-below q l u v r hu hv b t h = by-bit (bit l t) (bit-lt l t)
     (λ z. omega (arith, b .low t h z, hu t h))
     (λ z. omega (arith, b .high t h z, hv t h))
 
 -- a number moved up by n lanes has 0 in its first n lanes
-pub up-below : (q n x step : ℕ) → isAlphabet q ≡ true → Below q x → step ≡ 4 * n → Below q ((x * 2 ^ step) % 18446744073709551616)
+pub up-below : (q n x step : ℕ) → isAlphabet q ≡ true → LanesBelow q x → step ≡ 4 * n → LanesBelow q ((x * 2 ^ step) % 18446744073709551616)
 up-below q n x step al b e t h = omega (arith, digit-mod 4 16 (x * 2 ^ step) t h, ap (λ z. digit 4 (x * 2 ^ z) t) e, go (decLt t n))
   where
     go : Dec (t < n) → digit 4 (x * 2 ^ (4 * n)) t < q

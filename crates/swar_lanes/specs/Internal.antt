@@ -35,12 +35,12 @@ unfoldable pub placesOf : ℕ → ℕ → ℕ → ℕ
 placesOf f h i = cond (ltb i 16) (placeOf f i) (placeOf h (i - 16))
 
 -- every lane of x is below q
-abbrev pub Below : ℕ → ℕ → Type 0
-Below q x = (t : ℕ) → t < 16 → digit 4 x t < q
+abbrev pub LanesBelow : ℕ → ℕ → Type 0
+LanesBelow q x = (t : ℕ) → t < 16 → digit 4 x t < q
 
 -- every lane of the sixteen numbers of x is below q
 abbrev pub Within : ℕ → List ℕ → Type 0
-Within q x = (j : ℕ) → j < 16 → Below q (at x j)
+Within q x = (j : ℕ) → j < 16 → LanesBelow q (at x j)
 
 -- every symbol of w fits a lane
 abbrev pub Low : List ℕ → Type 0

@@ -8,7 +8,7 @@ ghost use Rattle.code_theory.specs.Sum.{at};
 ghost use Rattle.code_theory.specs.Modular.{subMod};
 ghost use Rattle.code_theory.specs.Question.{isAlphabet};
 ghost use Rattle.swar_theory.specs.Internal.{digit};
-ghost use Rattle.swar_lanes.specs.Internal.{Lanes, Below, Within, Low, Held, Loaded, ClearLanes, Blend, laneBit, VotesIn, VotesWithin, Reach, BallotOf};
+ghost use Rattle.swar_lanes.specs.Internal.{Lanes, LanesBelow, Within, Low, Held, Loaded, ClearLanes, Blend, laneBit, VotesIn, VotesWithin, Reach, BallotOf};
 
 // A number with 15 in every lane whose number has bit l clear, and 0 in the others.
 fn clear(l: u32) -> u64
@@ -34,7 +34,7 @@ fn blend(l: u32, u: u64, v: u64) -> u64
 
 // The lanes of y minus those of x modulo q: eight more than the difference is never below 0, and q divides eight.
 pub fn less(q: u64, y: u64, x: u64) -> u64
-    requires { ⌜ (isAlphabet q ≡ true) × Below q y × Below q x ⌝ }
+    requires { ⌜ (isAlphabet q ≡ true) × LanesBelow q y × LanesBelow q x ⌝ }
     ensures { λ r. ⌜ Lanes r (λ t. subMod q (digit 4 y t) (digit 4 x t)) ⌝ }
 {
     (y + 0x8888_8888_8888_8888 - x) & ((q - 1) * 0x1111_1111_1111_1111)
@@ -75,7 +75,7 @@ pub fn partners(k: u32, x: u64) -> u64
 // The votes for coefficient k, below 4, of the places that one number holds: each in the lane of its place, whose bit k is 0; the other
 // lanes are 0.
 pub fn votes_in(q: u64, k: u32, x: u64) -> u64
-    requires { ⌜ (isAlphabet q ≡ true) × (k < 4) × Below q x ⌝ }
+    requires { ⌜ (isAlphabet q ≡ true) × (k < 4) × LanesBelow q x ⌝ }
     ensures { λ r. ⌜ VotesIn q k x r ⌝ }
 {
     less(q, partners(k, x), x) & clear(lane_bit(k))
@@ -92,8 +92,8 @@ fn number(x: &[u64; 16], i: usize) -> u64
 // The sixteen votes for coefficient k, below 4, of the 32 places in a and b: those of a in the lanes of its places whose bit k is 0, those
 // of b in the other lanes.
 pub fn votes_within(q: u64, k: u32, a: u64, b: u64) -> u64
-    requires { ⌜ (isAlphabet q ≡ true) × Below q a × Below q b × (k < 4) ⌝ }
-    ensures { λ r. ⌜ VotesWithin q k a b r × Below q r ⌝ }
+    requires { ⌜ (isAlphabet q ≡ true) × LanesBelow q a × LanesBelow q b × (k < 4) ⌝ }
+    ensures { λ r. ⌜ VotesWithin q k a b r × LanesBelow q r ⌝ }
 {
     let l = lane_bit(k);
     let high = blend(l, partners(k, a), b);
@@ -104,7 +104,7 @@ pub fn votes_within(q: u64, k: u32, a: u64, b: u64) -> u64
 // Ballot j for coefficient k, 4 or more: sixteen votes of number i, whose partners stand 2^(k - 4) numbers further on.
 fn votes_across(q: u64, k: u32, j: usize, x: &[u64; 16]) -> u64
     requires { ⌜ Reach q k j (now x) × (4 ≤ k) ⌝ }
-    ensures { λ r. ⌜ BallotOf q k j (now (x .entry)) r × Below q r ⌝ }
+    ensures { λ r. ⌜ BallotOf q k j (now (x .entry)) r × LanesBelow q r ⌝ }
 {
     let i = code_arith::nth_clear(k - 4, j);
     less(q, number(x, i + code_arith::pow2(k - 4)), number(x, i))
@@ -113,7 +113,7 @@ fn votes_across(q: u64, k: u32, j: usize, x: &[u64; 16]) -> u64
 // Ballot j for coefficient k: sixteen of the votes, one in each lane.
 pub fn ballot(q: u64, k: u32, j: usize, x: &[u64; 16]) -> u64
     requires { ⌜ Reach q k j (now x) ⌝ }
-    ensures { λ r. ⌜ BallotOf q k j (now (x .entry)) r × Below q r ⌝ }
+    ensures { λ r. ⌜ BallotOf q k j (now (x .entry)) r × LanesBelow q r ⌝ }
 {
     if k < 4 {
         return votes_within(q, k, number(x, 2 * j), number(x, 2 * j + 1));

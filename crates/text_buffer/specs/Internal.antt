@@ -1,5 +1,5 @@
 -- What the code of a line puts into the buffer at once.
-use Prim.Native.Nat.{ℕ, _+_}
+use Prim.Native.Nat.{ℕ}
 use mathlib.Core.List.{List, [], _∷_, _++_}
 use Rattle.text_buffer.specs.Text.{decimal}
 

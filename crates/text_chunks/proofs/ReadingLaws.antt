@@ -14,7 +14,7 @@ use mir.Syntax.{w32, w64}
 use mir.Val.{Fits, SFits, ofZ}
 use Rattle.text_chunks.specs.declared.Next.the-variants.{Read, Rest, End, Failed}
 use Rattle.text_chunks.specs.Reading.{given, afterFailure, afterPart}
-use Rattle.text_chunks.specs.Internal.{placeOf}
+use Rattle.text_chunks.specs.Internal.{restPlace}
 
 -- what a failed read left as its error, which the code compares as a number of 32 bits
 pub failed-again : (error : ℤ) → ofZ w32 error ≡ 4 → SFits w32 error → Read ≡ afterFailure error
@@ -41,21 +41,21 @@ unfolding afterPart
 part-rest over place end o d = sym (rw (o, ne-eqb place end d))
 
 -- where the listing goes on
-pub failed-place : (error : ℤ) → placeOf (afterFailure error) ≡ 0
-unfolding afterFailure placeOf
+pub failed-place : (error : ℤ) → restPlace (afterFailure error) ≡ 0
+unfolding afterFailure restPlace
 failed-place (pos e) = by (eqb e 4)
   where
-    by : (t : Bool) → placeOf (cond t Read Failed) ≡ 0
+    by : (t : Bool) → restPlace (cond t Read Failed) ≡ 0
     by true = refl
     by false = refl
 failed-place (negsuc e) = refl
 
-pub part-place : (over : Bool) (place end : ℕ) → place ≤ end → placeOf (afterPart over place end) ≤ end
-unfolding afterPart placeOf
+pub part-place : (over : Bool) (place end : ℕ) → place ≤ end → restPlace (afterPart over place end) ≤ end
+unfolding afterPart restPlace
 part-place true place end h = omega arith
 part-place false place end h = by (eqb place end)
   where
-    by : (t : Bool) → placeOf (cond t Read (Rest place)) ≤ end
+    by : (t : Bool) → restPlace (cond t Read (Rest place)) ≤ end
     by true = omega arith
     by false = h
 

@@ -36,11 +36,11 @@ pub record Took {S : Type 0} (R : Reader S) (p : Progress S) (bytes before : Lis
   pub bound : read ≤ length bytes
 
 -- the place of the chunk where the program goes on
-unfoldable pub placeOf : Next → ℕ
-placeOf (Rest place) = place
-placeOf Read = 0
-placeOf End = 0
-placeOf Failed = 0
+unfoldable pub restPlace : Next → ℕ
+restPlace (Rest place) = place
+restPlace Read = 0
+restPlace End = 0
+restPlace Failed = 0
 
 -- what is to hold where the rest of the chunk comes next
 unfoldable pub IfRest : Next → Type 0 → Type 0

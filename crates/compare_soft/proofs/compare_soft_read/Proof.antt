@@ -1,7 +1,7 @@
 -- `compare_soft_read` meets its contract, case by case.
 use mathlib.Core.Path.{ap, sym, _∙_}
+use Rattle.code_theory.proofs.QuestionLaws.{number-yes, number-no}
 use Rattle.soft.specs.Answers.{softAnswered}
-use Rattle.compare_soft.specs.Internal.{readNumber}
 use borrow.Author.Needs.{needs}
 use Rattle.compare_soft.proofs.compare_soft_read.Statement.{statement}
 use Rattle.compare_soft.proofs.compare_soft_read.Tie as tie
@@ -19,19 +19,19 @@ same-length : tie.Need-same-length
 same-length c = search needs
 
 returns : tie.Need-returns
-unfolding readNumber softAnswered
+unfolding softAnswered
 returns c =
     let r = c .before .before .before .before .soft-read in
-    (sym (ap (λ v. readNumber (softAnswered v)) (c .enum-told .given .1)) ∙ ap readNumber (r .ensures .0), r .ensures .1)
+    (number-yes _ _ (sym (ap softAnswered (c .enum-told .given .1)) ∙ r .ensures .0), r .ensures .1)
 
 same-length-2 : tie.Need-same-length-2
 same-length-2 c = search needs
 
 returns-2 : tie.Need-returns-2
-unfolding readNumber softAnswered
+unfolding softAnswered
 returns-2 c =
     let r = c .before .before .before .before .before .soft-read in
-    (sym (ap (λ v. readNumber (softAnswered v)) (c .before .number .given .1)) ∙ ap readNumber (r .ensures .0), r .ensures .1)
+    (number-no _ _ (sym (ap softAnswered (c .before .number .given .1)) ∙ r .ensures .0), r .ensures .1)
 
 pub compare-soft-read-spec : {M : Type 1} → statement M
 compare-soft-read-spec =

@@ -1,7 +1,7 @@
 -- `compare_soft_vote` meets its contract, case by case.
 use mathlib.Core.Path.{ap, sym, _∙_}
 use Rattle.soft_decision.specs.Voted.{voted}
-use Rattle.compare_soft.specs.Internal.{voteNumber, voteSums}
+use Rattle.compare_soft.specs.Internal.{voteNumber, sumsAfter}
 use borrow.Author.Needs.{needs}
 use Rattle.compare_soft.proofs.compare_soft_vote.Statement.{statement}
 use Rattle.compare_soft.proofs.compare_soft_vote.Tie as tie
@@ -34,36 +34,36 @@ same-length : tie.Need-same-length
 same-length c = search needs
 
 returns : tie.Need-returns
-unfolding voteNumber voteSums voted
+unfolding voteNumber sumsAfter voted
 returns c =
     let a = c .before .before .before .before .before in
     let v = a .before .before .soft-vote .ensures in
     let l = a .before .before .before .before .before .before .args .sums .now in (
       sym (ap (λ v. voteNumber (voted v)) (a .symbol .given .1)) ∙ ap voteNumber v,
-      c .before .before .store .ensures ∙ sym (ap (λ v. voteSums (voted v) l) (a .symbol .given .1)) ∙ ap (λ d. voteSums d l) v,
+      c .before .before .store .ensures ∙ sym (ap (λ v. sumsAfter (voted v) l) (a .symbol .given .1)) ∙ ap (λ d. sumsAfter d l) v,
     )
 
 same-length-2 : tie.Need-same-length-2
 same-length-2 c = search needs
 
 returns-2 : tie.Need-returns-2
-unfolding voteNumber voteSums voted
+unfolding voteNumber sumsAfter voted
 returns-2 c =
     let a = c .before .before .before .before .before in
     let v = a .before .before .soft-vote .ensures in
     let l = a .before .before .before .before .before .before .args .sums .now in (
       sym (ap (λ v. voteNumber (voted v)) (a .s .given .1)) ∙ ap voteNumber v,
-      c .before .before .store2 .ensures ∙ sym (ap (λ v. voteSums (voted v) l) (a .s .given .1)) ∙ ap (λ d. voteSums d l) v,
+      c .before .before .store2 .ensures ∙ sym (ap (λ v. sumsAfter (voted v) l) (a .s .given .1)) ∙ ap (λ d. sumsAfter d l) v,
     )
 
 returns-3 : tie.Need-returns-3
-unfolding voteNumber voteSums voted
+unfolding voteNumber sumsAfter voted
 returns-3 c =
     let a = c .before in
     let v = a .before .before .soft-vote .ensures in
     let l = a .before .before .before .before .before .before .args .sums .now in (
       sym (ap (λ v. voteNumber (voted v)) (a .number .given .1)) ∙ ap voteNumber v,
-      sym (ap (λ v. voteSums (voted v) l) (a .number .given .1)) ∙ ap (λ d. voteSums d l) v,
+      sym (ap (λ v. sumsAfter (voted v) l) (a .number .given .1)) ∙ ap (λ d. sumsAfter d l) v,
     )
 
 pub compare-soft-vote-spec : {M : Type 1} → statement M

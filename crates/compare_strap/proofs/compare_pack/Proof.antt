@@ -1,7 +1,7 @@
 -- `compare_pack` meets its contract: the number for each answer of pack.
 use mathlib.Core.Path.{ap, sym, _∙_}
+use Rattle.code_theory.proofs.QuestionLaws.{number-yes, number-no}
 use Rattle.strap.specs.Strap.{packed}
-use Rattle.compare_strap.specs.Internal.{packNumber}
 use borrow.Author.Needs.{needs}
 use Rattle.compare_strap.proofs.compare_pack.Statement.{statement}
 use Rattle.compare_strap.proofs.compare_pack.Tie as tie
@@ -19,19 +19,19 @@ same-length : tie.Need-same-length
 same-length c = search needs
 
 returns : tie.Need-returns
-unfolding packNumber packed
+unfolding packed
 returns c =
     let r = c .before .before .before .before .pack in
-    (sym (ap (λ v. packNumber (packed v)) (c .enum-told .given .1)) ∙ ap packNumber (r .ensures .0), r .ensures .1)
+    (number-yes _ _ (sym (ap packed (c .enum-told .given .1)) ∙ r .ensures .0), r .ensures .1)
 
 same-length-2 : tie.Need-same-length-2
 same-length-2 c = search needs
 
 returns-2 : tie.Need-returns-2
-unfolding packNumber packed
+unfolding packed
 returns-2 c =
     let r = c .before .before .before .before .before .pack in
-    (sym (ap (λ v. packNumber (packed v)) (c .before .number .given .1)) ∙ ap packNumber (r .ensures .0), r .ensures .1)
+    (number-no _ _ (sym (ap packed (c .before .number .given .1)) ∙ r .ensures .0), r .ensures .1)
 
 pub compare-pack-spec : {M : Type 1} → statement M
 compare-pack-spec =

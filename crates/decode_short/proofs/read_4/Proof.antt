@@ -4,7 +4,7 @@ use mathlib.Core.Path.{refl}
 use borrow.Author.Needs.{needs}
 use Rattle.decode_short_candidate.specs.Internal.{message}
 use Rattle.decode_reading.proofs.SettleLaws.{settled-doubtful}
-use Rattle.decode_short.proofs.SettleLaws.{front-all, symbols-eight, verified-only, few}
+use Rattle.decode_short.proofs.SettleLaws.{front-all, symbols-eight, verified-measured, few}
 use Rattle.decode_short.proofs.read_4.Statement.{statement}
 use Rattle.decode_short.proofs.read_4.Tie as tie
 
@@ -16,7 +16,7 @@ unfolding message
 returns c =
     let s = c .before .before .before .before .before in
     let t = c .before .before .verify-4 in
-    settled-doubtful _ _ _ _ _ (verified-only _ 1 _ _ _ _ (s .pre .0) (omega arith) refl (t .ensures)) (s .args .s .now) (omega arith)
+    settled-doubtful _ _ _ _ _ (verified-measured _ 1 _ _ _ _ (s .pre .0) (omega arith) refl (t .ensures)) (s .args .s .now) (omega arith)
 
 store-3-requires : tie.Need-store-3-requires
 store-3-requires c κs =

@@ -3,7 +3,8 @@ use mathlib.Core.Path.{refl}
 use Rattle.code_theory.specs.Sum.{every}
 use Rattle.swar_theory.specs.Internal.{digit}
 use Rattle.swar_lanes.proofs.LaneLaws.{none-below}
-use Rattle.decode_short_errors.proofs.PlaceLaws.{plus-below, mask-is, code-is}
+use Rattle.swar_count.proofs.EqualLaws.{mask-is}
+use Rattle.decode_short_errors.proofs.PlaceLaws.{plus-below, code-is}
 use Rattle.decode_short_errors.proofs.code.Statement.{statement}
 use Rattle.decode_short_errors.proofs.code.Tie as tie
 

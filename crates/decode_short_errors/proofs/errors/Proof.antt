@@ -6,7 +6,8 @@ use Rattle.code_theory.proofs.WordLaws.{bounds}
 use Rattle.swar_theory.specs.Internal.{digit}
 use borrow.Author.Needs.{needs}
 use Rattle.swar_lanes.proofs.LaneLaws.{less-below}
-use Rattle.decode_short_errors.proofs.PlaceLaws.{part-below, mask-is, errors-are}
+use Rattle.swar_count.proofs.EqualLaws.{mask-is}
+use Rattle.decode_short_errors.proofs.PlaceLaws.{part-below, errors-are}
 use Rattle.decode_short_errors.proofs.errors.Statement.{statement}
 use Rattle.decode_short_errors.proofs.errors.Tie as tie
 

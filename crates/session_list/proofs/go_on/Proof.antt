@@ -2,7 +2,7 @@
 use mathlib.Core.Path.{refl, ap, sym, _∙_}
 use native.Mathlib.Omega.{arith}
 use mir.Facts.{toZ-ofZ}
-use Rattle.text_chunks.specs.Internal.{placeOf, goesOn}
+use Rattle.text_chunks.specs.Internal.{restPlace, goesOn}
 use Rattle.session_list.proofs.ReadLaws.{back-room, back-place, if-rest, if-read, if-end, if-failed}
 use borrow.Author.Needs.{needs}
 use Rattle.session_list.proofs.go_on.Statement.{statement}
@@ -33,36 +33,36 @@ same-length : tie.Need-same-length
 same-length c = search needs
 
 returns : tie.Need-returns
-unfolding placeOf goesOn
+unfolding restPlace goesOn
 returns c =
     let d = c .before .before in
     let e = d .read .ensures in
     let t = d .before .before .enum-told .given .1 in
-    ((e .0, omega (arith, e .1)), ((e .1 ∙ sym (ap placeOf t), e .2 ∙ sym (ap goesOn t)), if-read _ _ t))
+    ((e .0, omega (arith, e .1)), ((e .1 ∙ sym (ap restPlace t), e .2 ∙ sym (ap goesOn t)), if-read _ _ t))
 
 returns-2 : tie.Need-returns-2
-unfolding placeOf goesOn
+unfolding restPlace goesOn
 returns-2 c =
     let s = c .before .before .before .before in
     let t = c .before .next .given .1 in
     let e = toZ-ofZ (s .fits .got) in (
-      (back-room (s .args .got) _ _ e (s .pre .0), back-place (s .args .got) _ _ e (omega (arith, s .pre .1, ap placeOf t))),
-      ((sym (ap placeOf t), sym (ap goesOn t)), if-rest _ _ _ t (e, toZ-ofZ (s .fits .error), refl)),
+      (back-room (s .args .got) _ _ e (s .pre .0), back-place (s .args .got) _ _ e (omega (arith, s .pre .1, ap restPlace t))),
+      ((sym (ap restPlace t), sym (ap goesOn t)), if-rest _ _ _ t (e, toZ-ofZ (s .fits .error), refl)),
     )
 
 returns-3 : tie.Need-returns-3
-unfolding placeOf goesOn
+unfolding restPlace goesOn
 returns-3 c =
     let e = c .end .ensures in
     let t = c .before .enum-told2 .given .1 in
-    ((omega (arith, e .0), omega (arith, e .1)), ((e .1 ∙ sym (ap placeOf t), e .2 ∙ sym (ap goesOn t)), if-end _ _ t))
+    ((omega (arith, e .0), omega (arith, e .1)), ((e .1 ∙ sym (ap restPlace t), e .2 ∙ sym (ap goesOn t)), if-end _ _ t))
 
 returns-4 : tie.Need-returns-4
-unfolding placeOf goesOn
+unfolding restPlace goesOn
 returns-4 c =
     let e = c .failed .ensures in
     let t = c .before .enum-told3 .given .1 in
-    ((omega (arith, e .0), omega (arith, e .1)), ((e .1 ∙ sym (ap placeOf t), e .2 ∙ sym (ap goesOn t)), if-failed _ _ t))
+    ((omega (arith, e .0), omega (arith, e .1)), ((e .1 ∙ sym (ap restPlace t), e .2 ∙ sym (ap goesOn t)), if-failed _ _ t))
 
 pub go-on-spec : {M : Type 1} → statement M
 go-on-spec =

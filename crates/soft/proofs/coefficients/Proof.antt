@@ -1,6 +1,7 @@
 -- `coefficients` meets its contract, by the number of samples.
 use native.Mathlib.Omega.{arith}
-use Rattle.soft.proofs.ReadLaws.{four-samples, both-told}
+use Rattle.soft_all_sums.proofs.RowLaws.{samples-by}
+use Rattle.soft.proofs.ReadLaws.{both-told}
 use borrow.Author.Needs.{needs}
 use Rattle.soft.proofs.coefficients.Statement.{statement}
 use Rattle.soft.proofs.coefficients.Tie as tie
@@ -8,7 +9,7 @@ use Rattle.soft.proofs.coefficients.Tie as tie
 decide-both-requires : tie.Need-decide-both-requires
 decide-both-requires c κs =
     let s = c .before .before .before .before .before in
-    (four-samples _ _ _ (omega arith) (s .pre .0), s .pre .1, s .pre .2)
+    (samples-by _ 2 _ _ (omega arith) (s .pre .0), s .pre .1, s .pre .2)
 
 same-length : tie.Need-same-length
 same-length c = search needs
