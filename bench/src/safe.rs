@@ -1,7 +1,7 @@
-//! The best safe Rust reader and writer: pairs by blocks, no division, the codeword by doubling, the distance from the tally.
-//! A tally is eight counters of eight bits in one u64. Reader and writer (b), the best, have constant lengths, which
-//! const generics write: a reader for each of the 21 codes, a writer for each of the seven lengths. (c) are the same with one
-//! body for all codes, q and m being arguments.
+//! The best safe Rust reader and writer: pairs by blocks, no division, the codeword by doubling, the distance from the
+//! tally. A tally is eight counters of eight bits in one u64. Reader and writer (b), the best, have constant lengths,
+//! which const generics write: a reader for each of the 21 codes, a writer for each of the seven lengths. (c) are the
+//! same with one body for all codes, q and m being arguments.
 
 use common::questions::{answer_code, is_alphabet, is_message_size, is_word_size, yes, Refusal};
 
@@ -104,8 +104,8 @@ pub fn read(q: u32, m: u32, message: &mut [u8], word: &[u8]) -> Result<Reading, 
     Ok(reading)
 }
 
-/// The winner for coefficient k. In the smallest codes the compiler unrolls the loop over k; elsewhere each k has a body of
-/// its own, with a constant step.
+/// The winner for coefficient k. In the smallest codes the compiler unrolls the loop over k; elsewhere each k has a
+/// body of its own, with a constant step.
 #[inline(always)]
 fn coefficient_at<const Q: usize, const N: usize>(k: usize, word: &[u8; N]) -> Winner {
     if Q < 8 && Q * N <= 64 {

@@ -1,5 +1,5 @@
-//! The best safe Rust for soft samples, q = 4, with the bits of the order of operations that docs/REQUIREMENTS.md sets: the sums of several
-//! coefficients run side by side, since each waits for the addition before.
+//! The best safe Rust for soft samples, q = 4, with the bits of the order of operations that docs/REQUIREMENTS.md sets:
+//! the sums of several coefficients run side by side, since each waits for the addition before.
 
 use common::questions::{is_variables, yes, Refusal};
 

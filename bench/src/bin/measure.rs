@@ -1,4 +1,5 @@
-//! The command behind `bench/run`: the agreement, each table, the plot, the input of the session list, and the calls to be counted.
+//! The command behind `bench/run`: the agreement, each table, the plot, the input of the session list, and the calls to
+//! be counted.
 
 use std::path::Path;
 use std::process::ExitCode;
