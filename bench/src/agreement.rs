@@ -35,8 +35,9 @@ fn reads(q: u32, m: u32, kind: Kind) -> Result<usize, String> {
             ("read (c)", calls::safe_read),
             ("read (b)", calls::safe_read_each),
         ];
+        let proved = answer(proved::decode);
         for (name, call) in others {
-            same(name, format!("q {q}, m {m}, {word:?}"), answer(proved::compare_decode), answer(call))?;
+            same(name, format!("q {q}, m {m}, {word:?}"), &proved, &answer(call))?;
         }
     }
     Ok(words.len())
@@ -54,8 +55,9 @@ fn writes(q: u32, m: u32) -> Result<usize, String> {
             ("write (c)", calls::safe_write),
             ("write (b)", calls::safe_write_each),
         ];
+        let proved = answer(proved::encode);
         for (name, call) in others {
-            same(name, format!("q {q}, m {m}, {message:?}"), answer(proved::compare_encode), answer(call))?;
+            same(name, format!("q {q}, m {m}, {message:?}"), &proved, &answer(call))?;
         }
     }
     Ok(messages.len())

@@ -2,18 +2,16 @@
 
 use common::questions::Refusal;
 
-use crate::{plain, safe, soft, Reading};
+use crate::{plain, proved, safe, soft, Reading};
 
-/// 1,000,000 for a word written.
 #[inline(always)]
 fn written(answer: Result<(), Refusal>) -> u64 {
-    answer.map_or_else(u64::from, |()| 1_000_000)
+    answer.map_or_else(u64::from, |()| proved::WRITTEN)
 }
 
-/// 1,000,000 + 1,000 * wrong + margin for a word read.
 #[inline(always)]
 fn reading(answer: Result<Reading, Refusal>) -> u64 {
-    answer.map_or_else(u64::from, |read| 1_000_000 + 1_000 * u64::from(read.wrong) + u64::from(read.margin))
+    answer.map_or_else(u64::from, |read| proved::values(read.wrong, read.margin))
 }
 
 #[inline(never)]
@@ -46,7 +44,7 @@ pub fn safe_write_each(q: u32, m: u32, message: &[u8], word: &mut [u8]) -> u64 {
     written(safe::write_each(q, m, message, word))
 }
 
-/// 100 + symbol for sure and 104 for unsure, with both sums in the slice of two.
+/// Leaves both sums in the slice of two.
 #[inline(never)]
 pub fn soft_vote(m: u32, k: u32, re: &[f32], im: &[f32], sums: &mut [f32]) -> u32 {
     match soft::vote(m, k, re, im) {
@@ -55,13 +53,12 @@ pub fn soft_vote(m: u32, k: u32, re: &[f32], im: &[f32], sums: &mut [f32]) -> u3
             if let [real, imaginary] = sums {
                 (*real, *imaginary) = (vote.sums.re, vote.sums.im);
             }
-            100 + vote.symbol.map_or(4, u32::from)
+            proved::voted(vote.symbol)
         }
     }
 }
 
-/// 100 for a message read.
 #[inline(never)]
 pub fn soft_read(m: u32, message: &mut [u8], re: &[f32], im: &[f32]) -> u32 {
-    soft::read(m, message, re, im).map_or_else(|number| number, |()| 100)
+    soft::read(m, message, re, im).map_or_else(|number| number, |()| proved::DONE)
 }

@@ -8,9 +8,9 @@ use crate::{calls, proved};
 pub fn run(name: &str, q: u32, m: u32, count: usize) -> Result<(), String> {
     let (words, messages, samples) = (inputs::words(q, m, Kind::Light), inputs::messages(q, m), inputs::samples(m));
     let mut pass: Pass = match name {
-        "proved-decode" => passes::read(proved::compare_decode, q, m, &words),
+        "proved-decode" => passes::read(proved::decode, q, m, &words),
         "safe-decode" => passes::read(calls::safe_read_each, q, m, &words),
-        "proved-encode" => passes::write(proved::compare_encode, q, m, &messages),
+        "proved-encode" => passes::write(proved::encode, q, m, &messages),
         "safe-encode" => passes::write(calls::safe_write_each, q, m, &messages),
         "proved-soft-vote" => passes::soft_vote(proved::soft_vote, m, &samples),
         "safe-soft-vote" => passes::soft_vote(calls::soft_vote, m, &samples),

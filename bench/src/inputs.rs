@@ -1,9 +1,12 @@
 //! The inputs: messages, words of three kinds, soft samples, and the lines of a full session.
 
-use common::random::Random;
+use common::questions::STRAP;
+use common::random::{alter, Random};
+use common::samples::IDEAL;
 use common::session::SLOTS;
 
 use crate::calls::{plain_read, safe_write};
+use crate::proved::WRITTEN;
 
 /// How many inputs of each kind: too many for the branch predictor.
 pub const COUNT: usize = 1024;
@@ -32,8 +35,8 @@ pub fn words(q: u32, m: u32, kind: Kind) -> Vec<Vec<u8>> {
     (0..COUNT).map(|_| word(&mut random, q, m, kind)).collect()
 }
 
-/// The word of a random message. Lightly damaged: a sixteenth of the symbols altered, at least one; at n = 4 none, since one
-/// would be a quarter. Doubtful: a quarter to half of them altered, and no message near.
+/// The word of a random message. Lightly damaged: a sixteenth of the symbols altered, at least one; at n = 4 none,
+/// since one would be a quarter. Doubtful: a quarter to half of them altered, and no message near.
 fn word(random: &mut Random, q: u32, m: u32, kind: Kind) -> Vec<u8> {
     let n = 1usize << m;
     loop {
@@ -45,7 +48,7 @@ fn word(random: &mut Random, q: u32, m: u32, kind: Kind) -> Vec<u8> {
         };
         let mut places: Vec<usize> = (0..n).collect();
         for &place in random.choose(&mut places, altered) {
-            word[place] = (word[place] + random.error(q)) % q as u8;
+            alter(q, &mut word[place], random.error(q));
         }
         if !matches!(kind, Kind::Doubtful) || is_doubtful(q, m, &word) {
             return word;
@@ -55,7 +58,7 @@ fn word(random: &mut Random, q: u32, m: u32, kind: Kind) -> Vec<u8> {
 
 fn codeword(q: u32, m: u32, message: &[u8]) -> Vec<u8> {
     let mut word = vec![0; 1 << m];
-    assert_eq!(safe_write(q, m, message, &mut word), 1_000_000, "a word of a message");
+    assert_eq!(safe_write(q, m, message, &mut word), WRITTEN, "a word of a message");
     word
 }
 
@@ -74,19 +77,16 @@ pub fn samples(m: u32) -> Vec<Samples> {
     let mut random = Random::new(SEED);
     let mut sample = || {
         let word = codeword(4, m, &random.symbols(4, m as usize + 1));
-        let mut part = |symbol: u8| {
-            let ideal = [127.0, 0.0, -127.0, 0.0][usize::from(symbol % 4)];
-            (ideal + 32.0 * random.unit()).clamp(-127.0, 127.0)
-        };
-        let re = word.iter().map(|&symbol| part(symbol)).collect();
-        let im = word.iter().map(|&symbol| part(symbol + 3)).collect();
+        let mut off = |ideal: f32| (ideal + 32.0 * random.unit()).clamp(-127.0, 127.0);
+        let re = word.iter().map(|&symbol| off(IDEAL[usize::from(symbol)].0)).collect();
+        let im = word.iter().map(|&symbol| off(IDEAL[usize::from(symbol)].1)).collect();
         Samples { re, im }
     };
     (0..COUNT).map(|_| sample()).collect()
 }
 
-/// The lines of a full session, and a few after it: words, clean and lightly damaged, and here and there a miss, a doubtful
-/// word or a bad line.
+/// The lines of a full session, and a few after it: words, clean and lightly damaged, and here and there a miss, a
+/// doubtful word or a bad line.
 pub fn session() -> Vec<u8> {
     let mut random = Random::new(SEED);
     let mut text = Vec::new();
@@ -106,7 +106,8 @@ pub fn session() -> Vec<u8> {
     text
 }
 
-/// A word of the strap's code, q = 4 and m = 4, as a line of the session list.
+/// A word of the strap's code as a line of the session list.
 fn digits(random: &mut Random, kind: Kind) -> Vec<u8> {
-    word(random, 4, 4, kind).iter().map(|symbol| b'0' + symbol).collect()
+    let (q, m) = STRAP;
+    word(random, q, m, kind).iter().map(|symbol| b'0' + symbol).collect()
 }

@@ -1,7 +1,8 @@
-//! The session list in Rust, q = 4 and m = 4: the whole input at once, the output through a buffer.
+//! The session list in Rust: the whole input at once, the output through a buffer.
 
 use std::io::{self, Write};
 
+use common::questions::STRAP;
 use common::session::{SLOTS, SLOT_MS};
 
 use crate::safe;
@@ -94,7 +95,7 @@ fn list_word<W: Write>(session: &mut Session, word: &[u8; 16], out: &mut Output<
     out.number(session.used * SLOT_MS);
     session.used += 1;
     let mut message = [0; 5];
-    let Ok(reading) = safe::read_each(4, 4, &mut message, word) else {
+    let Ok(reading) = safe::read_each(STRAP.0, STRAP.1, &mut message, word) else {
         session.reference = None;
         return out.text(b"doubtful\n");
     };

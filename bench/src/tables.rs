@@ -3,14 +3,14 @@
 use std::path::{Path, PathBuf};
 use std::{env, fmt, fs};
 
-use common::questions::{CODES, GREATEST_M, LEAST_M};
+use common::questions::{CODES, GREATEST_M, LEAST_M, STRAP};
 
 use crate::inputs::{self, COUNT, KINDS};
 use crate::passes::{self, Pass};
 use crate::{calls, processes, proved, timing};
 
-/// The rows of a table are measured over and over, so many times in all, and the best times count: a load on the machine
-/// comes and goes.
+/// The rows of a table are measured over and over, so many times in all, and the best times count: a load on the
+/// machine comes and goes.
 const MEASUREMENTS: usize = 256;
 const ROUNDS: usize = 40;
 const RUNS: usize = 200;
@@ -39,8 +39,9 @@ impl fmt::Display for Ratio {
     }
 }
 
-/// The best times of one call in each row, over all sweeps, and over those in the file of this name, which other builds of this
-/// program have left there: how fast code runs depends on where the linker happens to put it, so several layouts are measured.
+/// The best times of one call in each row, over all sweeps, and over those in the file of this name, which other builds
+/// of this program have left there: how fast code runs depends on where the linker happens to put it, so several
+/// layouts are measured.
 fn sweep<R, const C: usize>(name: &str, rows: &[R], passes: impl Fn(&R) -> [Pass<'_>; C]) -> Vec<Times<C>> {
     let mut best = kept(name).unwrap_or_else(|| vec![[f64::MAX; C]; rows.len()]);
     for _ in 0..MEASUREMENTS / rows.len() {
@@ -115,7 +116,7 @@ pub fn decode() {
         .collect();
     let times = sweep("decode", &rows, |&(q, m, _, ref words)| {
         [
-            passes::read(proved::compare_decode, q, m, words),
+            passes::read(proved::decode, q, m, words),
             passes::read(calls::plain_read, q, m, words),
             passes::read(calls::safe_read_each, q, m, words),
             passes::read(calls::safe_read, q, m, words),
@@ -135,7 +136,7 @@ pub fn decode() {
         row([q, m].map(|x| x.to_string()).into_iter().chain((first..first + KINDS.len()).flat_map(cells)));
     }
     least("to (a)", &plain);
-    let raised = |(q, m, ..): &(u32, u32, &str, Vec<Vec<u8>>)| *m == 8 || (*q, *m) == (4, 4);
+    let raised = |(q, m, ..): &(u32, u32, &str, Vec<Vec<u8>>)| *m == 8 || (*q, *m) == STRAP;
     least("to (c)", &one);
     verdict(1.0, "to (b) at any code", &best);
     let high = rows.iter().zip(&best).filter(|(row, _)| raised(row));
@@ -147,7 +148,7 @@ pub fn encode() {
     let rows: Vec<_> = CODES.into_iter().map(|(q, m)| (q, m, inputs::messages(q, m))).collect();
     let times = sweep("encode", &rows, |&(q, m, ref messages)| {
         [
-            passes::write(proved::compare_encode, q, m, messages),
+            passes::write(proved::encode, q, m, messages),
             passes::write(calls::plain_write, q, m, messages),
             passes::write(calls::safe_write_each, q, m, messages),
             passes::write(calls::safe_write, q, m, messages),

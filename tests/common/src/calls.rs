@@ -83,23 +83,41 @@ mod raw {
     }
 }
 
-/// The refusal number, or 1,000,000 for a word written.
+/// The answer of a call that did what it was asked for and has no values.
+pub const DONE: u32 = 100;
+
+/// The answer of `encode` for a word written.
+pub const WRITTEN: u64 = 1_000_000;
+
+/// The answer of `decode` for a word read, of wrong and margin, and that of `unpack`, of rate and zone.
+#[inline(always)]
+pub fn values(first: u32, second: u32) -> u64 {
+    1_000_000 + 1_000 * u64::from(first) + u64::from(second)
+}
+
+/// The answer of `soft_vote`: 100 + symbol for sure, and 104 for unsure.
+#[inline(always)]
+pub fn voted(symbol: Option<u8>) -> u32 {
+    100 + symbol.map_or(4, u32::from)
+}
+
+/// The refusal number, or `WRITTEN`.
 #[inline]
-pub fn compare_encode(q: u32, m: u32, message: &[u8], word: &mut [u8]) -> u64 {
+pub fn encode(q: u32, m: u32, message: &[u8], word: &mut [u8]) -> u64 {
     let (length, word_length) = (message.len(), word.len());
     // SAFETY: each pointer and length is that of a slice lent for the call.
     unsafe { raw::compare_encode(q, m, message.as_ptr(), length, word.as_mut_ptr(), word_length) }
 }
 
-/// The refusal number, or 1,000,000 + 1,000 * wrong + margin for a word read.
+/// The refusal number, or the `values` wrong and margin.
 #[inline]
-pub fn compare_decode(q: u32, m: u32, message: &mut [u8], word: &[u8]) -> u64 {
+pub fn decode(q: u32, m: u32, message: &mut [u8], word: &[u8]) -> u64 {
     let (length, word_length) = (message.len(), word.len());
     // SAFETY: each pointer and length is that of a slice lent for the call.
     unsafe { raw::compare_decode(q, m, message.as_mut_ptr(), length, word.as_ptr(), word_length) }
 }
 
-/// The C form of encode: the refusal number, or 100 for a word written.
+/// The C form of encode: the refusal number, or `DONE`.
 #[inline]
 pub fn rm_write(q: u32, m: u32, message: &[u8], word: &mut [u8]) -> u32 {
     let (length, word_length) = (message.len(), word.len());
@@ -107,7 +125,7 @@ pub fn rm_write(q: u32, m: u32, message: &[u8], word: &mut [u8]) -> u32 {
     unsafe { raw::rm_write(q, m, message.as_ptr(), length, word.as_mut_ptr(), word_length) }
 }
 
-/// The C form of decode: the refusal number, or 100 + wrong for a word read.
+/// The C form of decode: the refusal number, or `DONE` + wrong.
 #[inline]
 pub fn rm_read(q: u32, m: u32, message: &mut [u8], word: &[u8]) -> u32 {
     let (length, word_length) = (message.len(), word.len());
@@ -115,21 +133,21 @@ pub fn rm_read(q: u32, m: u32, message: &mut [u8], word: &[u8]) -> u32 {
     unsafe { raw::rm_read(q, m, message.as_mut_ptr(), length, word.as_ptr(), word_length) }
 }
 
-/// The refusal number, or 100 with the session.
+/// The refusal number, or `DONE` with the session.
 #[inline]
 pub fn open_sender(q: u32, m: u32, session: &mut [u32]) -> u32 {
     // SAFETY: the pointer and length are those of a slice lent for the call.
     unsafe { raw::compare_open_sender(q, m, session.as_mut_ptr(), session.len()) }
 }
 
-/// The refusal number, or 100 with the session.
+/// The refusal number, or `DONE` with the session.
 #[inline]
 pub fn open_receiver(q: u32, m: u32, session: &mut [u32]) -> u32 {
     // SAFETY: the pointer and length are those of a slice lent for the call.
     unsafe { raw::compare_open_receiver(q, m, session.as_mut_ptr(), session.len()) }
 }
 
-/// The refusal number, or 100 with the next session.
+/// The refusal number, or `DONE` with the next session.
 #[inline]
 pub fn send(session: &mut [u32], message: &[u8], word: &mut [u8]) -> u32 {
     let (numbers, length, word_length) = (session.len(), message.len(), word.len());
@@ -138,7 +156,7 @@ pub fn send(session: &mut [u32], message: &[u8], word: &mut [u8]) -> u32 {
     unsafe { raw::compare_send(session, numbers, message.as_ptr(), length, word, word_length) }
 }
 
-/// The refusal number, at 9 with the next session, or 100 with the next session and the delivery.
+/// The refusal number, at 9 with the next session, or `DONE` with the next session and the delivery.
 #[inline]
 pub fn receive(session: &mut [u32], delivery: &mut [u32], message: &mut [u8], word: &[u8]) -> u32 {
     let (numbers, values, length) = (session.len(), delivery.len(), message.len());
@@ -147,14 +165,14 @@ pub fn receive(session: &mut [u32], delivery: &mut [u32], message: &mut [u8], wo
     unsafe { raw::compare_receive(session, numbers, delivery, values, message, length, word.as_ptr(), word.len()) }
 }
 
-/// The refusal number, or 100 with the next session.
+/// The refusal number, or `DONE` with the next session.
 #[inline]
 pub fn miss(session: &mut [u32]) -> u32 {
     // SAFETY: the pointer and length are those of a slice lent for the call.
     unsafe { raw::compare_miss(session.as_mut_ptr(), session.len()) }
 }
 
-/// The refusal number; or 100 + symbol for sure and 104 for unsure, with both sums in the slice of two.
+/// The refusal number, or whether a symbol was `voted` for, with both sums in the slice of two.
 #[inline]
 pub fn soft_vote(m: u32, k: u32, re: &[f32], im: &[f32], sums: &mut [f32]) -> u32 {
     let (re_length, im_length, length) = (re.len(), im.len(), sums.len());
@@ -162,7 +180,7 @@ pub fn soft_vote(m: u32, k: u32, re: &[f32], im: &[f32], sums: &mut [f32]) -> u3
     unsafe { raw::compare_soft_vote(m, k, re.as_ptr(), re_length, im.as_ptr(), im_length, sums.as_mut_ptr(), length) }
 }
 
-/// The refusal number, or 100.
+/// The refusal number, or `DONE`.
 #[inline]
 pub fn soft_read(m: u32, message: &mut [u8], re: &[f32], im: &[f32]) -> u32 {
     let (length, re_length, im_length) = (message.len(), re.len(), im.len());
@@ -170,14 +188,14 @@ pub fn soft_read(m: u32, message: &mut [u8], re: &[f32], im: &[f32]) -> u32 {
     unsafe { raw::compare_soft_read(m, message.as_mut_ptr(), length, re.as_ptr(), re_length, im.as_ptr(), im_length) }
 }
 
-/// The refusal number, or 100.
+/// The refusal number, or `DONE`.
 #[inline]
 pub fn pack(message: &mut [u8], rate: u8, zone: u8) -> u32 {
     // SAFETY: the pointer and length are those of a slice lent for the call.
     unsafe { raw::compare_pack(message.as_mut_ptr(), message.len(), rate, zone) }
 }
 
-/// The refusal number, or 1,000,000 + 1,000 * rate + zone.
+/// The refusal number, or the `values` rate and zone.
 #[inline]
 pub fn unpack(message: &[u8]) -> u32 {
     // SAFETY: the pointer and length are those of a slice lent for the call.

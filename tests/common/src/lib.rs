@@ -4,4 +4,5 @@
 pub mod calls;
 pub mod questions;
 pub mod random;
+pub mod samples;
 pub mod session;

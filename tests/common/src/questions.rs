@@ -8,18 +8,24 @@ pub const ALPHABETS: [u32; 3] = [2, 4, 8];
 pub const LEAST_M: u32 = 2;
 pub const GREATEST_M: u32 = 8;
 
-/// All codes, as (q, m).
-pub const CODES: [(u32, u32); 21] = codes();
+/// How many values m has.
+pub const COUNT_OF_M: usize = (GREATEST_M - LEAST_M + 1) as usize;
 
-const fn codes() -> [(u32, u32); 21] {
-    let mut codes = [(0, 0); 21];
+/// All codes, as (q, m).
+pub const CODES: [(u32, u32); ALPHABETS.len() * COUNT_OF_M] = codes();
+
+const fn codes() -> [(u32, u32); ALPHABETS.len() * COUNT_OF_M] {
+    let mut codes = [(0, 0); ALPHABETS.len() * COUNT_OF_M];
     let mut place = 0;
     while place < codes.len() {
-        codes[place] = (ALPHABETS[place / 7], LEAST_M + place as u32 % 7);
+        codes[place] = (ALPHABETS[place / COUNT_OF_M], LEAST_M + (place % COUNT_OF_M) as u32);
         place += 1;
     }
     codes
 }
+
+/// The strap's code.
+pub const STRAP: (u32, u32) = (4, 4);
 
 /// The number where the answer is no.
 #[inline]

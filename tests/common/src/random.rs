@@ -1,4 +1,9 @@
-//! Random numbers that are the same in every run.
+//! Random numbers that are the same in every run, and what they alter.
+
+/// Adds an error to a symbol, modulo q.
+pub fn alter(q: u32, symbol: &mut u8, error: u8) {
+    *symbol = (*symbol + error) % q as u8;
+}
 
 /// A xorshift generator.
 pub struct Random(u64);

@@ -4,7 +4,7 @@
 //! the questions shows.
 
 use common::questions::ALPHABETS;
-use common::random::Random;
+use common::random::{alter, Random};
 
 use crate::model;
 
@@ -190,8 +190,4 @@ fn damage_towards(random: &mut Random, q: u32, word: &mut [u8], message: &[u8], 
     for &place in random.choose(&mut places, count) {
         word[place] = target[place];
     }
-}
-
-fn alter(q: u32, symbol: &mut u8, error: u8) {
-    *symbol = (*symbol + error) % q as u8;
 }

@@ -43,14 +43,14 @@ impl Codec<'_> {
     pub fn encode(&mut self, report: &mut Report, case: &Case) -> Result<Vec<u8>, u32> {
         let answer = model::encode(case.q, case.m, &case.message, case.word.len());
         let (message, word) = (&case.message, answer.as_ref().unwrap_or(&case.word));
-        let number = |written| answer.as_ref().err().copied().unwrap_or(written);
-        let expected = Expected { number: number(1_000_000).into(), message, word };
-        let call: Call = |q, m, message, word| calls::compare_encode(q, m, message, word);
-        compare(report, "compare_encode", call, case, &expected);
-        let expected = Expected { number: number(100).into(), message, word };
+        let number = |written| answer.as_ref().map_or_else(|&no| no.into(), |_| written);
+        let expected = Expected { number: number(calls::WRITTEN), message, word };
+        let call: Call = |q, m, message, word| calls::encode(q, m, message, word);
+        compare(report, "encode", call, case, &expected);
+        let expected = Expected { number: number(calls::DONE.into()), message, word };
         let call: Call = |q, m, message, word| calls::rm_write(q, m, message, word).into();
         compare(report, "rm_write", call, case, &expected);
-        self.encoded.add((case.q, case.m), number(0));
+        self.encoded.add((case.q, case.m), answer.as_ref().err().copied().unwrap_or(0));
         report.cases += 1;
         answer
     }
@@ -59,12 +59,12 @@ impl Codec<'_> {
     pub fn decode(&mut self, report: &mut Report, case: &Case) -> Result<Reading, u32> {
         let answer = self.model.decode(case.q, case.m, case.message.len(), &case.word);
         let message = answer.as_ref().map_or(&case.message, |reading| &reading.message);
-        let number = |read: fn(&Reading) -> u32| answer.as_ref().map_or_else(|&no| no, read);
-        let with_margin = number(|reading| 1_000_000 + 1000 * reading.wrong + reading.margin);
-        let expected = Expected { number: with_margin.into(), message, word: &case.word };
-        let call: Call = |q, m, message, word| calls::compare_decode(q, m, message, word);
-        compare(report, "compare_decode", call, case, &expected);
-        let expected = Expected { number: number(|reading| 100 + reading.wrong).into(), ..expected };
+        let number = |read: fn(&Reading) -> u64| answer.as_ref().map_or_else(|&no| no.into(), read);
+        let with_margin = number(|reading| calls::values(reading.wrong, reading.margin));
+        let expected = Expected { number: with_margin, message, word: &case.word };
+        let call: Call = |q, m, message, word| calls::decode(q, m, message, word);
+        compare(report, "decode", call, case, &expected);
+        let expected = Expected { number: number(|reading| (calls::DONE + reading.wrong).into()), ..expected };
         let call: Call = |q, m, message, word| calls::rm_read(q, m, message, word).into();
         compare(report, "rm_read", call, case, &expected);
         self.count_decoded(case, &answer);

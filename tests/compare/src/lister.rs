@@ -1,9 +1,11 @@
 //! A second lister, after docs/REQUIREMENTS.md ("Session list"): bytes in, text out, over the second implementation of
 //! the receiving session.
 
+use common::questions::STRAP;
+
 use crate::model::Model;
 use crate::session_model::{Delivery, Received, Receiver};
-use crate::strap_model::{self, LENGTH, STRAP};
+use crate::strap_model::{self, LENGTH};
 
 const HEADER: &str = "ms rate zone wrong margin\n";
 

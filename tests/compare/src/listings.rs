@@ -5,6 +5,7 @@ use std::io::Write;
 use std::process::{Command, Stdio};
 use std::thread;
 
+use common::questions::STRAP;
 use common::random::Random;
 use common::session::SLOTS;
 
@@ -12,6 +13,7 @@ use crate::cases;
 use crate::check::Report;
 use crate::lister;
 use crate::model::Model;
+use crate::strap_model::LENGTH;
 
 const PROGRAM: &str = concat!(env!("CARGO_MANIFEST_DIR"), "/../../target/bin/session_list");
 
@@ -192,9 +194,10 @@ fn difference(due: &str, printed: &Result<Vec<u8>, String>) -> String {
 
 /// The digits of a word, damaged around a quarter.
 fn word(random: &mut Random) -> Vec<u8> {
-    let message = random.symbols(4, 5);
-    let count = cases::damage_count(random, 16);
-    cases::damaged(random, 4, &message, count).iter().map(|symbol| symbol + b'0').collect()
+    let (q, m) = STRAP;
+    let message = random.symbols(q, LENGTH);
+    let count = cases::damage_count(random, 1 << m);
+    cases::damaged(random, q, &message, count).iter().map(|symbol| symbol + b'0').collect()
 }
 
 /// One line without its newline: mostly a word, else a miss or any kind of bad line.

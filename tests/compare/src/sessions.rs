@@ -104,7 +104,7 @@ impl Call {
             Call::Receive => return due_receive(model, before, after),
         };
         match session {
-            Ok(session) => (100, Slices { session, ..after }),
+            Ok(session) => (calls::DONE, Slices { session, ..after }),
             Err(number) => (number, after),
         }
     }
@@ -114,7 +114,7 @@ fn due_receive(model: &Model, before: &Slices, after: Slices) -> (u32, Slices) {
     match Receiver::of(before.session).receive(model, before.message.len(), &before.word) {
         Received::Read(next, delivery, message) => {
             let (session, delivery) = (next.numbers(), delivery.numbers());
-            (100, Slices { session, delivery, message, ..after })
+            (calls::DONE, Slices { session, delivery, message, ..after })
         }
         Received::Doubtful(next) => (9, Slices { session: next.numbers(), ..after }),
         Received::Refused(number) => (number, after),
@@ -179,12 +179,12 @@ impl Sessions<'_> {
             _ => (session[0], session[1]),
         };
         self.calls += 1;
-        self.answers[call.place()].add(code, if number == 100 { 0 } else { number.min(15) });
-        if call == Call::Receive && number == 100 {
+        self.answers[call.place()].add(code, if number == calls::DONE { 0 } else { number.min(15) });
+        if call == Call::Receive && number == calls::DONE {
             self.zones[usize::from(left.delivery[0] == NONE)].add(code, 0);
         }
         let Some(place) = call.place().checked_sub(2) else { return };
-        if number == 100 && session[3] == SLOTS - 1 {
+        if number == calls::DONE && session[3] == SLOTS - 1 {
             self.last_slot[place].add(code, 0);
         }
         if number == 3 {

@@ -2,7 +2,7 @@
 //! samples are voted on and read in integers as well.
 
 use common::calls;
-use common::questions::{GREATEST_M, LEAST_M};
+use common::questions::{COUNT_OF_M, GREATEST_M, LEAST_M};
 use common::random::Random;
 
 use crate::check::{Counts, Guarded, Report};
@@ -43,7 +43,7 @@ impl Soft {
         if let Ok(vote) = &answer {
             self.vote_whole(report, case, vote);
         }
-        let number = answer.map_or_else(|no| no, |vote| 100 + decision(&vote) as u32);
+        let number = answer.map_or_else(|no| no, |vote| calls::voted(vote.symbol));
         let sums_due = answer.map_or(ENTRY.map(f32::from_bits), |vote| vote.sums);
         let shift = report.cases as usize % 8;
         let mut sums = Guarded::new(&ENTRY.map(f32::from_bits), shift);
@@ -78,7 +78,7 @@ impl Soft {
         if let Ok(_) | Err(11) = &answer {
             self.read_whole(report, case, &answer);
         }
-        let number = answer.as_ref().map_or_else(|&no| no, |_| 100);
+        let number = answer.as_ref().map_or_else(|&no| no, |_| calls::DONE);
         let due = answer.as_ref().unwrap_or(&case.message);
         let shift = report.cases as usize % 8;
         let mut message = Guarded::new(&case.message, shift);
@@ -192,5 +192,5 @@ fn decision(vote: &Vote) -> usize {
 
 /// One m after the other.
 fn each_m(round: u32) -> u32 {
-    LEAST_M + round % (GREATEST_M - LEAST_M + 1)
+    LEAST_M + round % COUNT_OF_M as u32
 }

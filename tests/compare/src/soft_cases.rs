@@ -1,7 +1,8 @@
 //! Cases for one soft vote and the soft read.
 
-use common::questions::LEAST_M;
+use common::questions::{COUNT_OF_M, LEAST_M};
 use common::random::Random;
+use common::samples::IDEAL;
 
 use crate::cases;
 use crate::model;
@@ -15,9 +16,6 @@ pub struct Case {
     pub re: Vec<f32>,
     pub im: Vec<f32>,
 }
-
-/// The samples of the four symbols.
-const IDEAL: [(f32, f32); 4] = [(127.0, 0.0), (0.0, 127.0), (-127.0, 0.0), (0.0, -127.0)];
 
 /// The least f32 above 127, the greatest below it, and the least above 0.
 const ABOVE: f32 = f32::from_bits(127.0f32.to_bits() + 1);
@@ -133,7 +131,7 @@ pub fn word(random: &mut Random, message: &[u8], hiss: u32, whole: bool) -> Case
 
 /// Random samples with no, one or several faults.
 pub fn random(random: &mut Random) -> Case {
-    let m = LEAST_M + random.below(7) as u32;
+    let m = LEAST_M + random.below(COUNT_OF_M) as u32;
     let k = random.below(m as usize) as u32;
     let whole = random.one_in(2);
     let mut parts = || -> Vec<f32> {

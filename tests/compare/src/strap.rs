@@ -1,11 +1,12 @@
 //! Pack and unpack compared: the answer and every byte of the message's array.
 
 use common::calls;
+use common::questions::STRAP;
 use common::random::Random;
 
 use crate::check::{Counts, Guarded, Report};
 use crate::model;
-use crate::strap_model::{self, Message, Record, LENGTH, STRAP};
+use crate::strap_model::{self, Message, Record, LENGTH};
 
 /// The worked example of packing.
 const EXAMPLE: (Record, Message) = (Record { rate: 141, zone: 1 }, [1, 1, 3, 0, 2]);
@@ -28,7 +29,7 @@ impl Strap {
     /// Compares one pack into a message with this content at entry. Answers what the model does.
     fn pack(&mut self, report: &mut Report, entry: &[u8], record: Record) -> Result<Message, u32> {
         let answer = strap_model::pack(entry.len(), record);
-        let due = answer.err().unwrap_or(100);
+        let due = answer.err().unwrap_or(calls::DONE);
         let due_message = answer.as_ref().map_or(entry, |message| message);
         let shift = report.cases as usize % 8;
         let mut message = Guarded::new(entry, shift);
@@ -49,11 +50,10 @@ impl Strap {
     /// Compares one unpack. Answers what the model does.
     fn unpack(&mut self, report: &mut Report, given: &[u8]) -> Result<Record, u32> {
         let answer = strap_model::unpack(given);
-        let number = |Record { rate, zone }| 1_000_000 + 1000 * u32::from(rate) + u32::from(zone);
-        let due = answer.map_or_else(|no| no, number);
+        let due = answer.map_or_else(u64::from, |Record { rate, zone }| calls::values(rate.into(), zone.into()));
         let shift = report.cases as usize % 8;
         let mut message = Guarded::new(given, shift);
-        let got = calls::unpack(message.lend());
+        let got = u64::from(calls::unpack(message.lend()));
         let same = message == Guarded::new(given, shift);
         report.require(got == due && same, || {
             format!("unpack {given:?}\n  expected {due}\n  got {got}\n  message array as given: {same}")
@@ -72,7 +72,8 @@ impl Strap {
         report.require(unpacked == Ok(record), || format!("{message:?} is unpacked as {unpacked:?}, not {record:?}"));
     }
 
-    /// Every rate is packed with every zone, those that there are not included. What was packed is unpacked again.
+    /// Every rate is packed with every zone, zones above 3 included, and what the model packs is unpacked. That the
+    /// record comes back is asked of the model alone: each answer of the proved code is compared with the model's.
     pub fn every_record(&mut self, report: &mut Report, random: &mut Random) {
         for rate in 0..=u8::MAX {
             for zone in 0..=u8::MAX {
@@ -84,7 +85,8 @@ impl Strap {
         }
     }
 
-    /// Every message of the strap's code is unpacked. What was unpacked is packed again.
+    /// Every message of the strap's code is unpacked, and the record that the model finds is packed. That the message
+    /// comes back is asked of the model alone, too.
     pub fn every_message(&mut self, report: &mut Report, random: &mut Random) {
         let (q, m) = STRAP;
         for number in 0..model::message_count(q, m) {
@@ -107,8 +109,8 @@ impl Strap {
         }
     }
 
-    /// Messages of every length: packed with zones that there are and are not, unpacked with sound symbols and with
-    /// one that is not, at each place.
+    /// Messages of every length: packed with valid and invalid zones, unpacked with sound symbols and with one that is
+    /// not, at each place.
     pub fn every_length(&mut self, report: &mut Report, random: &mut Random) {
         for length in 0..=GREATEST_LENGTH {
             for zone in [0, 1, 2, 3, 4, 5, 7, 8, 128, 255] {

@@ -1,10 +1,9 @@
 //! The second implementation of pack and unpack. A rate is taken apart by subtraction, and found again by a search
 //! among all rates.
 
-use common::questions::{all_below, is_message_size, yes};
+use common::questions::{all_below, is_message_size, yes, STRAP};
 
-/// The strap's code, as (q, m), and the length of its messages.
-pub const STRAP: (u32, u32) = (4, 4);
+/// The length of the strap's messages.
 pub const LENGTH: usize = 5;
 
 pub type Message = [u8; LENGTH];

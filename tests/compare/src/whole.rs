@@ -2,7 +2,8 @@
 //! between. The strap's words are turned by one number and damaged. What "Whole sessions" says of each slot is checked
 //! on what the proved code answered, besides the comparison with the model.
 
-use common::questions::CODES;
+use common::calls::DONE;
+use common::questions::{CODES, STRAP};
 use common::random::Random;
 use common::session::{SLOTS, SLOT_MS};
 
@@ -11,7 +12,6 @@ use crate::check::{Counts, Report};
 use crate::model;
 use crate::session_model::NONE;
 use crate::sessions::{Call, Sessions, Slices};
-use crate::strap_model::STRAP;
 
 /// What became of a slot of the launch: fewer than a quarter of the symbols altered, read in spite of heavier damage,
 /// or missed or doubtful.
@@ -85,7 +85,7 @@ impl Whole {
     ) -> Lists {
         let (mut strap, mut launch) = (Slices::new([7; 4]), Slices::new([7; 4]));
         let opened = sessions.call(report, Call::OpenSender(q, m), &mut strap);
-        let both = opened == 100 && sessions.call(report, Call::OpenReceiver(q, m), &mut launch) == 100;
+        let both = opened == DONE && sessions.call(report, Call::OpenReceiver(q, m), &mut launch) == DONE;
         report.require(both, || format!("sessions of q {q}, m {m} not opened"));
         let turn = random.below(q as usize) as u8;
         let mut lists = Lists { q, m, turn, strap, launch, slot: 0, before: None };
@@ -131,7 +131,7 @@ impl Lists {
         }
         self.fill_strap(random);
         let number = sessions.call(report, Call::Send, &mut self.strap);
-        report.require(number == 100, || format!("slot {} not sent: {number}, {:?}", self.slot, self.strap));
+        report.require(number == DONE, || format!("slot {} not sent: {number}, {:?}", self.slot, self.strap));
     }
 
     fn fill_strap(&mut self, random: &mut Random) {
@@ -153,7 +153,7 @@ impl Lists {
         }
         if random.one_in(8) {
             let number = sessions.call(report, Call::Miss, &mut self.launch);
-            report.require(number == 100, || format!("slot {} not missed: {number}", self.slot));
+            report.require(number == DONE, || format!("slot {} not missed: {number}", self.slot));
             return Slot::Unread;
         }
         let reference = self.launch.session[2];
@@ -175,7 +175,7 @@ impl Lists {
         let altered = model::distance(&self.turned(), &self.launch.word);
         let light = 4 * altered < 1 << self.m;
         let holds = match number {
-            100 => self.is_due(reference) && (!light || self.is_due_light(altered)),
+            DONE => self.is_due(reference) && (!light || self.is_due_light(altered)),
             9 => !light,
             _ => false,
         };
@@ -189,8 +189,8 @@ impl Lists {
             )
         });
         match number {
-            100 if light => Slot::Light,
-            100 => Slot::Heavy,
+            DONE if light => Slot::Light,
+            DONE => Slot::Heavy,
             _ => Slot::Unread,
         }
     }
