@@ -11,7 +11,7 @@
  *
  * Nothing is kept between calls and no memory is allocated. Calls on different buffers may run at the same time.
  *
- * Each call asks its questions in the order of the list and answers the number of the first no. A refused call
+ * Each call asks its questions in the order of their numbers and answers the number of the first no. A refused call
  * leaves both buffers as they were.
  *
  * Link with librm_c.a.

@@ -1,11 +1,10 @@
 -- Turning a word changes the constant of its message and nothing else. Assumes nothing.
 use Prim.Native.Nat.{ℕ, zero, suc, _+_, _*_, _%_, _^_, _<_}
-use mathlib.Core.Path.{_≡_, refl, ap, sym, _∙_}
+use mathlib.Core.Path.{_≡_, refl, ap, _∙_}
 use mathlib.Core.Logic.{_≢_}
 use mathlib.Core.List.{List, [], _∷_}
 use mathlib.Core.Option.{some}
 use native.Mathlib.Nat.{mod-lt, mod-eq-of-lt, mod-add-mod}
-use native.Mathlib.Decide.{ℕ-discrete}
 use native.Mathlib.Omega.{arith}
 use lib.ListN.{set}
 use Rattle.code_theory.specs.Sum.{at}
@@ -16,8 +15,8 @@ use Rattle.code_theory.specs.Turn.{turn, altered}
 use Rattle.code_theory.specs.Internal.{turned}
 use Rattle.code_theory.specs.Nearest.{nearest}
 use Rattle.code_theory.proofs.SumLaws.{sum-ext}
-use Rattle.code_theory.proofs.ModularLaws.{subMod-mod, subMod-add, add-cancel, differ-eq, differ-ne}
-use Rattle.code_theory.proofs.CodeLaws.{symbolAt-lt, codeword-at, distance-ext}
+use Rattle.code_theory.proofs.ModularLaws.{subMod-mod, subMod-add}
+use Rattle.code_theory.proofs.CodeLaws.{codeword-at, distance-ext}
 use Rattle.code_theory.proofs.WinnerLaws.{apart}
 use Rattle.code_theory.proofs.NearestLaws.{near-found}
 
@@ -33,19 +32,6 @@ pub turned-below : (q m t : ℕ) (s : ℕ → ℕ) → 0 < q → Below q m s →
 unfolding turned
 turned-below q m t s h b zero l = mod-lt _ h
 turned-below q m t s h b (suc k) l = b (suc k) l
-
-pub differ-turn : (q t a b : ℕ) → 0 < q → a < q → b < q → differ ((a + t) % q) ((b + t) % q) ≡ differ a b
-differ-turn q t a b h la lb = go (ℕ-discrete a b)
-  where
-    go : Dec (a ≡ b) → differ ((a + t) % q) ((b + t) % q) ≡ differ a b
-    go (yes e) = differ-eq _ _ (ap (λ x. (x + t) % q) e) ∙ sym (differ-eq a b e)
-    go (no d) = differ-ne _ _ (λ e. d (add-cancel q a b t h la lb e)) ∙ sym (differ-ne a b d)
-
--- the distance stays where message and word are turned alike
-pub distance-turned : (q m t : ℕ) (s y : ℕ → ℕ) → 0 < q → ((i : ℕ) → i < 2 ^ m → y i < q) → distance q m (turned q t s) (turn q t y) ≡ distance q m s y
-unfolding distance turn
-distance-turned q m t s y h b =
-    sum-ext (2 ^ m) _ _ (λ i l. rw (symbolAt-turned q m t s i) (differ-turn q t (symbolAt q m s i) (y i) h (symbolAt-lt q m s i h) (b i l)))
 
 -- ALTERED: the altered symbols of a word are its distance from the turned message
 pub altered-distance : (q m t : ℕ) (s x y : ℕ → ℕ) → ((i : ℕ) → i < 2 ^ m → x i ≡ symbolAt q m s i) → altered q m t x y ≡ distance q m (turned q t s) y

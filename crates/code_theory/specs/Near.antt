@@ -1,10 +1,10 @@
--- How far a received word y is from the word of a message s.
+-- How far a received word y is from the word of a message s (docs/REQUIREMENTS.md: Near).
 use Prim.Native.Nat.{ℕ, _-_, _*_, _^_, _<_, min}
 use Rattle.code_theory.specs.Sum.{sum}
 use Rattle.code_theory.specs.Modular.{subMod, differ}
 use Rattle.code_theory.specs.Code.{symbolAt}
 
--- in how many places they differ (docs/REQUIREMENTS.md: wrong)
+-- in how many places they differ (docs/REQUIREMENTS.md: Terms, wrong)
 unfoldable pub distance : ℕ → ℕ → (ℕ → ℕ) → (ℕ → ℕ) → ℕ
 distance q m s y = sum (2 ^ m) (λ i. differ (symbolAt q m s i) (y i))
 

@@ -1,4 +1,4 @@
--- What a received word reads as: the near message, by search over all messages.
+-- What a received word reads as: the near message, by search over all messages (docs/REQUIREMENTS.md: The three demands, 2).
 use Prim.Native.Nat.{ℕ, zero, suc, _*_, _^_}
 use mathlib.Core.Bool.{Bool, true, false}
 use mathlib.Core.List.{List, [], _∷_, _++_, map}
@@ -42,7 +42,7 @@ orEmpty (some t) = t
 unfoldable pub isNear : ℕ → ℕ → List ℕ → List ℕ → Bool
 isNear q m y t = ltb (4 * distance q m (at t) (at y)) (2 ^ m)
 
--- the near message of the word y, or none (docs/REQUIREMENTS.md: doubtful)
+-- the near message of the word y, or none (docs/REQUIREMENTS.md: Terms, doubtful)
 unfoldable pub nearest : ℕ → ℕ → List ℕ → Option (List ℕ)
 nearest q m y = find (isNear q m y) (messages q (suc m))
 

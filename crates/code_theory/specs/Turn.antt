@@ -7,6 +7,6 @@ use Rattle.code_theory.specs.Modular.{differ}
 unfoldable pub turn : ℕ → ℕ → (ℕ → ℕ) → ℕ → ℕ
 turn q t x i = (x i + t) % q
 
--- in how many places the word y differs from x turned by t (docs/REQUIREMENTS.md: altered)
+-- in how many places the word y differs from x turned by t (docs/REQUIREMENTS.md: Whole sessions, altered)
 unfoldable pub altered : ℕ → ℕ → ℕ → (ℕ → ℕ) → (ℕ → ℕ) → ℕ
 altered q m t x y = sum (2 ^ m) (λ i. differ (turn q t x i) (y i))

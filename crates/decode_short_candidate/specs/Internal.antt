@@ -21,7 +21,7 @@ message a c0 c1 c2 c3 c4 = a ∷ c0 ∷ c1 ∷ c2 ∷ c3 ∷ c4 ∷ []
 abbrev pub messageOf : Candidate → List ℕ
 messageOf g = message (g .constant) (g .c0) (g .c1) (g .c2) (g .c3) (g .c4)
 
--- d is the candidate of the word w of 2 ^ m places
+-- d has six symbols below q, and no other message than the one at its front can be near the word w of 2 ^ m places
 pub record OnlyCandidate (q m : ℕ) (w d : List ℕ) : Type 0 where
   pub below : (k : ℕ) → k < 6 → at d k < q
   pub only : OnlyNear q m w d
