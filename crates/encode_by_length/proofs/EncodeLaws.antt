@@ -1,6 +1,7 @@
 -- The answer of Write and the word that it leaves, by the first question answered no. Assumes nothing.
 use Prim.Native.Nat.{ℕ, suc, _^_, _≤_}
 use mathlib.Core.Path.{_≡_, refl, sym, _∙_}
+use mathlib.Core.Logic.{_≢_}
 use mathlib.Core.Bool.{Bool, true, false}
 use mathlib.Core.List.{List}
 use native.Mathlib.Omega.{arith}
@@ -13,37 +14,37 @@ use Rattle.encode_by_length.specs.Encoder.{encodeRefusal, encodeWord}
 
 -- the answer is the number of the first question answered no, and the word is left as it is
 module _ (q m : ℕ) (s w : List ℕ) where
-  left-as-is : (n : ℕ) → encodeRefusal q m s w ≡ suc n → (suc n ≡ encodeRefusal q m s w) × (w ≡ encodeWord q m s w)
+  pub left-as-is : (n : ℕ) → n ≡ encodeRefusal q m s w → n ≢ 0 → (n ≡ encodeRefusal q m s w) × (w ≡ encodeWord q m s w)
   unfolding encodeWord
-  left-as-is n e = (sym e, sym (after-no _ _ _ (λ z. absurd (omega (arith, e, z)))))
+  left-as-is n e d = (e, sym (after-no _ _ _ (λ z. d (e ∙ z))))
 
   pub alphabet-no : isAlphabet q ≡ false → (1 ≡ encodeRefusal q m s w) × (w ≡ encodeWord q m s w)
   unfolding encodeRefusal
-  alphabet-no a = left-as-is 0 (ask-no _ _ _ a)
+  alphabet-no a = left-as-is 1 (sym (ask-no _ _ _ a)) (λ z. absurd (omega (arith, z)))
 
   module _ (a : isAlphabet q ≡ true) where
     pub variables-no : (2 ≤ m → m ≤ 8 → ⊥) → (2 ≡ encodeRefusal q m s w) × (w ≡ encodeWord q m s w)
     unfolding encodeRefusal
-    variables-no h = left-as-is 1 (ask-on _ _ _ a ∙ ask-no _ _ _ (go (isVariables m) refl))
+    variables-no h = left-as-is 2 (sym (ask-on _ _ _ a ∙ ask-no _ _ _ (go (isVariables m) refl))) (λ z. absurd (omega (arith, z)))
       where
         go : (b : Bool) → isVariables m ≡ b → b ≡ false
         go true e = let (low, high) = variables-bounds m e in absurd (h low high)
         go false e = refl
 
     module _ (b : isVariables m ≡ true) where
-      pub size-no : isMessageSize m s ≡ false → (5 ≡ encodeRefusal q m s w) × (w ≡ encodeWord q m s w)
+      pub size-no : isMessageSize m s ≡ false → 5 ≡ encodeRefusal q m s w
       unfolding encodeRefusal
-      size-no c = left-as-is 4 (ask-on _ _ _ a ∙ ask-on _ _ _ b ∙ ask-no _ _ _ c)
+      size-no c = sym (ask-on _ _ _ a ∙ ask-on _ _ _ b ∙ ask-no _ _ _ c)
 
       module _ (c : isMessageSize m s ≡ true) where
-        pub below-no : allBelow q s ≡ false → (6 ≡ encodeRefusal q m s w) × (w ≡ encodeWord q m s w)
+        pub below-no : allBelow q s ≡ false → 6 ≡ encodeRefusal q m s w
         unfolding encodeRefusal
-        below-no d = left-as-is 5 (ask-on _ _ _ a ∙ ask-on _ _ _ b ∙ ask-on _ _ _ c ∙ ask-no _ _ _ d)
+        below-no d = sym (ask-on _ _ _ a ∙ ask-on _ _ _ b ∙ ask-on _ _ _ c ∙ ask-no _ _ _ d)
 
         module _ (d : allBelow q s ≡ true) where
-          pub word-no-room : isWordSize m w ≡ false → (7 ≡ encodeRefusal q m s w) × (w ≡ encodeWord q m s w)
+          pub word-no-room : isWordSize m w ≡ false → 7 ≡ encodeRefusal q m s w
           unfolding encodeRefusal
-          word-no-room e = left-as-is 6 (ask-on _ _ _ a ∙ ask-on _ _ _ b ∙ ask-on _ _ _ c ∙ ask-on _ _ _ d ∙ ask-no _ _ _ e)
+          word-no-room e = sym (ask-on _ _ _ a ∙ ask-on _ _ _ b ∙ ask-on _ _ _ c ∙ ask-on _ _ _ d ∙ ask-no _ _ _ e)
 
           pub all-yes : isWordSize m w ≡ true → encodeRefusal q m s w ≡ 0
           unfolding encodeRefusal
