@@ -32,13 +32,7 @@ const BAD_SYMBOLS: [u8; 8] = [8, 9, 15, 16, 127, 128, 254, 255];
 pub fn encode_case(random: &mut Random, (q, m): (u32, u32)) -> Case {
     let message = random.symbols(q, m as usize + 1);
     let word = random.bytes(1 << m);
-    let mut case = Case { q, m, message, word };
-    let faults = faults(random);
-    if faults[2] {
-        spoil_symbols(random, q, &mut case.message);
-    }
-    spoil(random, faults, &mut case);
-    case
+    with_message_faults(random, Case { q, m, message, word })
 }
 
 /// A sound case for decode in this code with up to all of its faults.
@@ -49,6 +43,16 @@ pub fn decode_case(random: &mut Random, (q, m): (u32, u32)) -> Case {
     let faults = faults(random);
     if faults[2] {
         spoil_symbols(random, q, &mut case.word);
+    }
+    spoil(random, faults, &mut case);
+    case
+}
+
+/// A sound case with up to all faults of a call that asks for the message's symbols and not for the word's.
+pub fn with_message_faults(random: &mut Random, mut case: Case) -> Case {
+    let faults = faults(random);
+    if faults[2] {
+        spoil_symbols(random, case.q, &mut case.message);
     }
     spoil(random, faults, &mut case);
     case

@@ -1,6 +1,9 @@
-//! Buffers with guards, the count of answers, and the report of mismatches: what every comparison uses.
+//! Buffers with guards, the count of answers, and the report of mismatches: what every comparison uses. And the
+//! comparison of one call on a message and a word.
 
 use std::fmt::Display;
+
+use crate::cases::Case;
 
 /// Places before and after a lent part.
 const GUARD: usize = 64;
@@ -143,4 +146,35 @@ impl Report {
             std::process::exit(1);
         }
     }
+}
+
+/// A call of the proved code on its two lent buffers.
+pub type Call = fn(u32, u32, &mut [u8], &mut [u8]) -> u64;
+
+/// What a call must answer and leave in its buffers.
+pub struct Expected<'a> {
+    pub number: u64,
+    pub message: &'a [u8],
+    pub word: &'a [u8],
+}
+
+/// Calls the proved code with guarded buffers, and compares its answer and every byte of both.
+pub fn compare(report: &mut Report, name: &str, call: Call, case: &Case, expected: &Expected) {
+    let (a, b) = (report.cases as usize % 8, report.cases as usize / 8 % 8);
+    let mut message = Guarded::new(&case.message, a);
+    let mut word = Guarded::new(&case.word, b);
+    let number = call(case.q, case.m, message.lend(), word.lend());
+    let same_message = message == Guarded::new(expected.message, a);
+    let same_word = word == Guarded::new(expected.word, b);
+    report.require(number == expected.number && same_message && same_word, || {
+        let Expected { number: due, message: due_message, word: due_word } = expected;
+        let (got_message, got_word) = (message.content(), word.content());
+        format!(
+            "{name}, q {}, m {}\n  message {:?}\n  word {:?}\n  \
+             expected {due}, message after {due_message:?}, word after {due_word:?}\n  \
+             got {number}, message after {got_message:?}, word after {got_word:?}\n  \
+             message array as expected: {same_message}, word array as expected: {same_word}",
+            case.q, case.m, case.message, case.word
+        )
+    });
 }

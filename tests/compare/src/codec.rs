@@ -5,21 +5,11 @@ use common::questions::CODES;
 use common::random::Random;
 
 use crate::cases::{self, Case};
-use crate::check::{Counts, Guarded, Report};
+use crate::check::{compare, Call, Counts, Expected, Report};
 use crate::model::{self, Model, Reading};
 
 /// The codes whose words are all read.
 const SMALL_CODES: [(u32, u32); 6] = [(2, 2), (2, 3), (2, 4), (4, 2), (4, 3), (8, 2)];
-
-/// A call of the proved code on its two lent buffers.
-type Call = fn(u32, u32, &mut [u8], &mut [u8]) -> u64;
-
-/// What a call must answer and leave in its buffers.
-struct Expected<'a> {
-    number: u64,
-    message: &'a [u8],
-    word: &'a [u8],
-}
 
 /// The comparison of encode and decode.
 pub struct Codec<'a> {
@@ -95,12 +85,10 @@ impl Codec<'_> {
     /// Every message of the codes that have few is written, and its word read back undamaged.
     pub fn every_message(&mut self, report: &mut Report) {
         for (q, m) in CODES {
-            let count = model::message_count(q, m);
-            if count > model::FEW_MESSAGES {
+            if model::message_count(q, m) > model::FEW_MESSAGES {
                 continue;
             }
-            for number in 0..count {
-                let message = model::symbols_of(q, m as usize + 1, number);
+            for message in model::messages(q, m) {
                 self.write_and_read(report, q, m, &message);
             }
         }
@@ -167,25 +155,4 @@ fn is_due(read: &Result<Reading, u32>, message: &[u8], count: u32, m: u32) -> bo
         }
         Err(number) => 4 * count == n && *number == 9,
     }
-}
-
-/// Calls the proved code with guarded buffers, and compares its answer and every byte of both.
-fn compare(report: &mut Report, name: &str, call: Call, case: &Case, expected: &Expected) {
-    let (a, b) = (report.cases as usize % 8, report.cases as usize / 8 % 8);
-    let mut message = Guarded::new(&case.message, a);
-    let mut word = Guarded::new(&case.word, b);
-    let number = call(case.q, case.m, message.lend(), word.lend());
-    let same_message = message == Guarded::new(expected.message, a);
-    let same_word = word == Guarded::new(expected.word, b);
-    report.require(number == expected.number && same_message && same_word, || {
-        let Expected { number: due, message: due_message, word: due_word } = expected;
-        let (got_message, got_word) = (message.content(), word.content());
-        format!(
-            "{name}, q {}, m {}\n  message {:?}\n  word {:?}\n  \
-             expected {due}, message after {due_message:?}, word after {due_word:?}\n  \
-             got {number}, message after {got_message:?}, word after {got_word:?}\n  \
-             message array as expected: {same_message}, word array as expected: {same_word}",
-            case.q, case.m, case.message, case.word
-        )
-    });
 }

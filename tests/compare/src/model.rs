@@ -35,6 +35,11 @@ pub fn symbols_of(q: u32, length: usize, number: usize) -> Vec<u8> {
     symbols
 }
 
+/// Every message of a code.
+pub fn messages(q: u32, m: u32) -> impl Iterator<Item = Vec<u8>> {
+    (0..message_count(q, m)).map(move |number| symbols_of(q, m as usize + 1, number))
+}
+
 fn bit_is_set(i: usize, k: usize) -> bool {
     i & (1 << k) != 0
 }
@@ -143,8 +148,7 @@ pub struct Codebook {
 
 impl Codebook {
     pub fn new(q: u32, m: u32) -> Codebook {
-        let message = |number| symbols_of(q, m as usize + 1, number);
-        let words = (0..message_count(q, m)).flat_map(|number| codeword(q, &message(number))).collect();
+        let words = messages(q, m).flat_map(|message| codeword(q, &message)).collect();
         Codebook { q, m, words }
     }
 

@@ -89,8 +89,7 @@ impl Strap {
     /// comes back is asked of the model alone, too.
     pub fn every_message(&mut self, report: &mut Report, random: &mut Random) {
         let (q, m) = STRAP;
-        for number in 0..model::message_count(q, m) {
-            let message = model::symbols_of(q, LENGTH, number);
+        for message in model::messages(q, m) {
             let record = self.unpack(report, &message).expect("a sound message is unpacked");
             let packed = self.pack(report, &random.bytes(LENGTH), record);
             let same = packed.is_ok_and(|packed| packed[..] == message);
