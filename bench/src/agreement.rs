@@ -3,7 +3,7 @@
 
 use common::questions::{CODES, GREATEST_M, LEAST_M};
 
-use crate::inputs::{self, Kind, Samples};
+use crate::inputs::{self, Distance, Kind, Samples};
 use crate::{calls, proved};
 
 /// What stands in a buffer at entry.
@@ -12,6 +12,7 @@ const ENTRY: u8 = 77;
 /// The forms of the calls.
 type Read = fn(u32, u32, &mut [u8], &[u8]) -> u64;
 type Write = fn(u32, u32, &[u8], &mut [u8]) -> u64;
+type Near = fn(u32, u32, &[u8], &[u8]) -> u32;
 type SoftVote = fn(u32, u32, &[f32], &[f32], &mut [f32]) -> u32;
 type SoftRead = fn(u32, &mut [u8], &[f32], &[f32]) -> u32;
 
@@ -63,6 +64,25 @@ fn writes(q: u32, m: u32) -> Result<usize, String> {
     Ok(messages.len())
 }
 
+/// The words as they are, and with their first symbol outside the alphabet.
+fn nears(q: u32, m: u32, distance: Distance) -> Result<usize, String> {
+    let pairs = inputs::pairs(q, m, distance);
+    let outside = pairs.words.iter().map(|word| [&[word[0] + q as u8], &word[1..]].concat());
+    let words: Vec<Vec<u8>> = pairs.words.iter().cloned().chain(outside).collect();
+    for (message, word) in pairs.messages.iter().cycle().zip(&words) {
+        let others = [
+            ("near (a)", calls::plain_near as Near),
+            ("near (b)", calls::near_by_places),
+            ("near (c)", calls::near_by_quarters),
+        ];
+        let proved = proved::near(q, m, message, word);
+        for (name, call) in others {
+            same(name, format!("q {q}, m {m}, {message:?}, {word:?}"), proved, call(q, m, message, word))?;
+        }
+    }
+    Ok(words.len())
+}
+
 fn soft(m: u32) -> Result<usize, String> {
     let samples = inputs::samples(m);
     for Samples { re, im } in &samples {
@@ -91,6 +111,9 @@ pub fn all() -> Result<usize, String> {
             count += reads(q, m, kind)?;
         }
         count += writes(q, m)?;
+        for distance in inputs::DISTANCES.into_iter().chain([Distance::Quarter]) {
+            count += nears(q, m, distance)?;
+        }
     }
     for m in LEAST_M..=GREATEST_M {
         count += soft(m)?;

@@ -2,7 +2,7 @@
 
 use common::questions::Refusal;
 
-use crate::{plain, proved, safe, soft, Reading};
+use crate::{near, plain, proved, safe, soft, Reading};
 
 #[inline(always)]
 fn written(answer: Result<(), Refusal>) -> u64 {
@@ -12,6 +12,11 @@ fn written(answer: Result<(), Refusal>) -> u64 {
 #[inline(always)]
 fn reading(answer: Result<Reading, Refusal>) -> u64 {
     answer.map_or_else(u64::from, |read| proved::values(read.wrong, read.margin))
+}
+
+#[inline(always)]
+fn is_near(answer: Result<bool, Refusal>) -> u32 {
+    answer.map_or_else(|number| number, |near| if near { proved::NEAR } else { proved::NOT_NEAR })
 }
 
 #[inline(never)]
@@ -42,6 +47,21 @@ pub fn safe_write(q: u32, m: u32, message: &[u8], word: &mut [u8]) -> u64 {
 #[inline(never)]
 pub fn safe_write_each(q: u32, m: u32, message: &[u8], word: &mut [u8]) -> u64 {
     written(safe::write_each(q, m, message, word))
+}
+
+#[inline(never)]
+pub fn plain_near(q: u32, m: u32, message: &[u8], word: &[u8]) -> u32 {
+    is_near(plain::near(q, m, message, word))
+}
+
+#[inline(never)]
+pub fn near_by_places(q: u32, m: u32, message: &[u8], word: &[u8]) -> u32 {
+    is_near(near::by_places(q, m, message, word))
+}
+
+#[inline(never)]
+pub fn near_by_quarters(q: u32, m: u32, message: &[u8], word: &[u8]) -> u32 {
+    near::by_quarters(q, m, message, word)
 }
 
 /// Leaves both sums in the slice of two.

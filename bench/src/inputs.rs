@@ -1,4 +1,4 @@
-//! The inputs: messages, words of three kinds, soft samples, and the lines of a full session.
+//! The inputs: messages, words of three kinds, words beside messages, soft samples, and the lines of a full session.
 
 use common::questions::STRAP;
 use common::random::{alter, Random};
@@ -24,6 +24,18 @@ pub enum Kind {
 
 pub const KINDS: [Kind; 3] = [Kind::Clean, Kind::Light, Kind::Doubtful];
 
+/// How far a word is from the message beside it. Just near is one symbol less than a quarter, as far as a near word may
+/// be; a quarter is not timed, but compared.
+#[derive(Clone, Copy)]
+pub enum Distance {
+    Clean,
+    Everywhere,
+    JustNear,
+    Quarter,
+}
+
+pub const DISTANCES: [Distance; 3] = [Distance::Clean, Distance::Everywhere, Distance::JustNear];
+
 pub fn messages(q: u32, m: u32) -> Vec<Vec<u8>> {
     let mut random = Random::new(SEED);
     (0..COUNT).map(|_| random.symbols(q, m as usize + 1)).collect()
@@ -40,20 +52,27 @@ pub fn words(q: u32, m: u32, kind: Kind) -> Vec<Vec<u8>> {
 fn word(random: &mut Random, q: u32, m: u32, kind: Kind) -> Vec<u8> {
     let n = 1usize << m;
     loop {
-        let mut word = codeword(q, m, &random.symbols(q, m as usize + 1));
+        let message = random.symbols(q, m as usize + 1);
         let altered = match kind {
             Kind::Clean => 0,
             Kind::Light => n.div_ceil(16).min((n - 1) / 4),
             Kind::Doubtful => n / 4 + random.below(n / 4 + 1),
         };
-        let mut places: Vec<usize> = (0..n).collect();
-        for &place in random.choose(&mut places, altered) {
-            alter(q, &mut word[place], random.error(q));
-        }
+        let word = damaged(random, q, m, &message, altered);
         if !matches!(kind, Kind::Doubtful) || is_doubtful(q, m, &word) {
             return word;
         }
     }
+}
+
+/// The word of a message with so many symbols altered, at random places.
+fn damaged(random: &mut Random, q: u32, m: u32, message: &[u8], altered: usize) -> Vec<u8> {
+    let mut word = codeword(q, m, message);
+    let mut places: Vec<usize> = (0..word.len()).collect();
+    for &place in random.choose(&mut places, altered) {
+        alter(q, &mut word[place], random.error(q));
+    }
+    word
 }
 
 fn codeword(q: u32, m: u32, message: &[u8]) -> Vec<u8> {
@@ -64,6 +83,30 @@ fn codeword(q: u32, m: u32, message: &[u8]) -> Vec<u8> {
 
 fn is_doubtful(q: u32, m: u32, word: &[u8]) -> bool {
     plain_read(q, m, &mut vec![0; m as usize + 1], word) == 9
+}
+
+/// Messages, and a word beside each.
+pub struct Pairs {
+    pub messages: Vec<Vec<u8>>,
+    pub words: Vec<Vec<u8>>,
+}
+
+/// Pairs of one distance.
+pub fn pairs(q: u32, m: u32, distance: Distance) -> Pairs {
+    let mut random = Random::new(SEED);
+    let altered = match distance {
+        Distance::Clean => 0,
+        Distance::Everywhere => 1 << m,
+        Distance::JustNear => (1 << m) / 4 - 1,
+        Distance::Quarter => (1 << m) / 4,
+    };
+    let mut pair = || {
+        let message = random.symbols(q, m as usize + 1);
+        let word = damaged(&mut random, q, m, &message, altered);
+        (message, word)
+    };
+    let (messages, words) = (0..COUNT).map(|_| pair()).unzip();
+    Pairs { messages, words }
 }
 
 /// Soft samples of one word: real and imaginary parts.

@@ -5,6 +5,7 @@ pub mod calls;
 pub mod counting;
 pub mod inputs;
 pub mod lister;
+pub mod near;
 pub mod passes;
 pub mod plain;
 pub mod plot;

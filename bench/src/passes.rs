@@ -2,7 +2,7 @@
 
 use std::hint::black_box;
 
-use crate::inputs::Samples;
+use crate::inputs::{Pairs, Samples};
 
 pub type Pass<'a> = Box<dyn FnMut() + 'a>;
 
@@ -32,6 +32,15 @@ pub fn write<'a>(
     Box::new(move || {
         for message in messages {
             black_box(call(black_box(q), black_box(m), black_box(message), black_box(&mut word)));
+        }
+    })
+}
+
+/// Asks of every message whether it is near the word beside it.
+pub fn near<'a>(call: impl Fn(u32, u32, &[u8], &[u8]) -> u32 + 'a, q: u32, m: u32, pairs: &'a Pairs) -> Pass<'a> {
+    Box::new(move || {
+        for (message, word) in pairs.messages.iter().zip(&pairs.words) {
+            black_box(call(black_box(q), black_box(m), black_box(message), black_box(word)));
         }
     })
 }

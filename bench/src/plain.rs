@@ -86,3 +86,14 @@ pub fn write(q: u32, m: u32, message: &[u8], word: &mut [u8]) -> Result<(), Refu
     }
     Ok(())
 }
+
+/// Whether a message is near a word, or the number of the first question answered no: 1, 2, 5, 6, 7.
+pub fn near(q: u32, m: u32, message: &[u8], word: &[u8]) -> Result<bool, Refusal> {
+    answer_code(q, m)?;
+    let mut code = [0; 256];
+    let code = &mut code[..1 << m];
+    write(q, m, message, code)?;
+    yes(is_word_size(m, word.len()), 7)?;
+    let wrong = code.iter().zip(word).filter(|(x, y)| x != y).count();
+    Ok(4 * wrong < word.len())
+}

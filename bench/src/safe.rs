@@ -20,7 +20,7 @@ struct Winner {
 
 /// Questions 6 and 8, without a branch at each symbol: q is a power of two.
 #[inline(always)]
-fn all_below(q: u32, symbols: &[u8]) -> bool {
+pub fn all_below(q: u32, symbols: &[u8]) -> bool {
     symbols.iter().fold(0, |all, &symbol| all | symbol) < q as u8
 }
 
@@ -58,7 +58,7 @@ fn coefficient(q: usize, step: usize, word: &[u8]) -> Winner {
 
 /// Doubles the codeword: what stands below `length` again, plus the coefficient, under the mask.
 #[inline(always)]
-fn double(length: usize, coefficient: u8, mask: u8, code: &mut [u8]) {
+pub fn double(length: usize, coefficient: u8, mask: u8, code: &mut [u8]) {
     let (low, high) = code.split_at_mut(length);
     for (high, low) in high.iter_mut().zip(low) {
         *high = low.wrapping_add(coefficient) & mask;

@@ -5,7 +5,7 @@ use std::{env, fmt, fs};
 
 use common::questions::{CODES, GREATEST_M, LEAST_M, STRAP};
 
-use crate::inputs::{self, COUNT, KINDS};
+use crate::inputs::{self, COUNT, DISTANCES, KINDS};
 use crate::passes::{self, Pass};
 use crate::{calls, processes, proved, timing};
 
@@ -88,6 +88,13 @@ fn row(cells: impl IntoIterator<Item = String>) {
     println!("| {} |", cells.into_iter().collect::<Vec<_>>().join(" | "));
 }
 
+/// The ratios to a competitor, in rows of a code and words that have a name.
+fn ratios<I, const C: usize>(rows: &[(u32, u32, &str, I)], times: &[Times<C>], other: usize) -> Vec<Ratio> {
+    let place = |q, m, name| format!("q {q}, m {m}, {name}");
+    let each = rows.iter().zip(times);
+    each.map(|((q, m, name, _), times)| Ratio::new(times[other], times[0], &place(q, m, name))).collect()
+}
+
 /// Names the least ratio.
 fn least<'a>(what: &str, ratios: impl IntoIterator<Item = &'a Ratio>) {
     let least = ratios.into_iter().min_by(|x, y| x.value.total_cmp(&y.value)).expect("a ratio");
@@ -122,12 +129,7 @@ pub fn decode() {
             passes::read(calls::safe_read, q, m, words),
         ]
     });
-    let ratios = |other: usize| -> Vec<Ratio> {
-        let place = |q, m, name| format!("q {q}, m {m}, {name}");
-        let each = rows.iter().zip(&times);
-        each.map(|((q, m, name, _), times)| Ratio::new(times[other], times[0], &place(q, m, name))).collect()
-    };
-    let (plain, best, one) = (ratios(1), ratios(2), ratios(3));
+    let [plain, best, one] = [1, 2, 3].map(|other| ratios(&rows, &times, other));
     let titles = ["ns, clean", "ns, light", "ns, doubtful"].map(|ns| [ns, "(a)", "(b)", "(c)"]);
     head(&[vec!["q", "m"], titles.concat()].concat());
     for (first, (q, m)) in (0..).step_by(KINDS.len()).zip(CODES) {
@@ -166,6 +168,56 @@ pub fn encode() {
     }
     least("to (c)", &one);
     verdict(1.0, "to (b)", &best);
+}
+
+/// Near: every code, with words at every distance, beside decode of the same words.
+pub fn near() {
+    let distances = || DISTANCES.into_iter().zip(["clean", "everywhere", "just near"]);
+    let rows: Vec<_> = CODES
+        .into_iter()
+        .flat_map(|(q, m)| distances().map(move |(distance, name)| (q, m, name, inputs::pairs(q, m, distance))))
+        .collect();
+    let times = sweep("near", &rows, |&(q, m, _, ref pairs)| {
+        [
+            passes::near(proved::near, q, m, pairs),
+            passes::read(proved::decode, q, m, &pairs.words),
+            passes::near(calls::plain_near, q, m, pairs),
+            passes::near(calls::near_by_places, q, m, pairs),
+            passes::near(calls::near_by_quarters, q, m, pairs),
+        ]
+    });
+    let [decode, plain, places, quarters] = [1, 2, 3, 4].map(|other| ratios(&rows, &times, other));
+    let titles = ["ns, clean", "ns, everywhere"].map(|ns| [ns, "decode", "(a)", "(b)", "(c)"]).concat();
+    head(&[&["q", "m"], &titles[..], &["ns, just near", "decode", "(b)", "(c)"]].concat());
+    for (first, (q, m)) in (0..).step_by(DISTANCES.len()).zip(CODES) {
+        let cells = |i: usize, shown: &[&[Ratio]]| -> Vec<String> {
+            [format!("{:.1}", times[i][0])]
+                .into_iter()
+                .chain(shown.iter().map(|ratios| ratios[i].to_string()))
+                .collect()
+        };
+        let ends = [first, first + 1].map(|i| cells(i, &[&decode, &plain, &places, &quarters])).concat();
+        let just = cells(first + 2, &[&decode, &places, &quarters]);
+        row([vec![q.to_string(), m.to_string()], ends, just].concat());
+    }
+    near_words(&decode, &plain, &places, &quarters);
+}
+
+/// The ratios on the first two kinds of words, where every code has those on three.
+fn at_ends(ratios: &[Ratio]) -> impl Iterator<Item = &Ratio> {
+    ratios.chunks(DISTANCES.len()).flat_map(|code| &code[..2])
+}
+
+/// What the table of near says, in words.
+fn near_words(decode: &[Ratio], plain: &[Ratio], places: &[Ratio], quarters: &[Ratio]) {
+    let ends = "on words that are clean or differ everywhere";
+    verdict(1.0, &format!("to decode {ends}"), at_ends(decode));
+    verdict(1.0, &format!("to (b) {ends}"), at_ends(places));
+    least(&format!("to (a) {ends}"), at_ends(plain));
+    least(&format!("to (c) {ends}"), at_ends(quarters));
+    for (name, ratios) in [("decode", decode), ("(b)", places), ("(c)", quarters)] {
+        least(&format!("to {name} on words just near"), ratios.iter().skip(2).step_by(DISTANCES.len()));
+    }
 }
 
 /// One soft vote and the soft read: every m.

@@ -6,6 +6,8 @@ use std::process::ExitCode;
 
 use bench::{agreement, counting, inputs, plot, tables};
 
+const COMMANDS: &str = "agreement | inputs | decode | encode | near | soft | plot | session | list | count";
+
 fn number<T: std::str::FromStr>(text: &str) -> Result<T, String> {
     text.parse().map_err(|_| format!("not a number: {text}"))
 }
@@ -20,6 +22,7 @@ fn run(arguments: &[&str]) -> Result<(), String> {
         ["inputs"] => println!("{}", inputs::COUNT),
         ["decode"] => tables::decode(),
         ["encode"] => tables::encode(),
+        ["near"] => tables::near(),
         ["soft"] => tables::soft(),
         ["plot", file] => write(file, plot::decode()?)?,
         ["session", file] => write(file, inputs::session())?,
@@ -27,7 +30,7 @@ fn run(arguments: &[&str]) -> Result<(), String> {
             tables::list(Path::new(proved), Path::new(rust), Path::new(session), Path::new(nothing))?
         }
         ["count", call, q, m, passes] => counting::run(call, number(q)?, number(m)?, number(passes)?)?,
-        _ => return Err(String::from("agreement | inputs | decode | encode | soft | plot | session | list | count")),
+        _ => return Err(String::from(COMMANDS)),
     }
     Ok(())
 }

@@ -12,7 +12,7 @@ use Rattle.code_theory.proofs.QuestionLaws.{ask-yes, ask-on, ask-no, variables-
 use Rattle.encode_codeword.specs.Internal.{Fits}
 use Rattle.encode_by_length.specs.Encoder.{encodeRefusal, encodeWord}
 
--- the answer is the number of the first question answered no, and the word is left as it is
+-- the answer is the number of the first question answered no, and then the word is left as it is (left-as-is)
 module _ (q m : ℕ) (s w : List ℕ) where
   pub left-as-is : (n : ℕ) → n ≡ encodeRefusal q m s w → n ≢ 0 → (n ≡ encodeRefusal q m s w) × (w ≡ encodeWord q m s w)
   unfolding encodeWord

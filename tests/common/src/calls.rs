@@ -28,6 +28,18 @@ mod raw {
         pub fn rm_read(q: u32, m: u32, message: *mut u8, message_len: usize, word: *const u8, word_len: usize) -> u32;
     }
 
+    #[link(name = "compare_near", kind = "static")]
+    extern "C" {
+        pub fn compare_near(
+            q: u32,
+            m: u32,
+            message: *const u8,
+            message_len: usize,
+            word: *const u8,
+            word_len: usize,
+        ) -> u32;
+    }
+
     #[link(name = "compare_session", kind = "static")]
     extern "C" {
         pub fn compare_open_sender(q: u32, m: u32, session: *mut u32, session_len: usize) -> u32;
@@ -95,6 +107,10 @@ pub fn values(first: u32, second: u32) -> u64 {
     1_000_000 + 1_000 * u64::from(first) + u64::from(second)
 }
 
+/// The answers of `near` for a message that is near the word, and for one that is not.
+pub const NEAR: u32 = 101;
+pub const NOT_NEAR: u32 = 100;
+
 /// The answer of `soft_vote`: 100 + symbol for sure, and 104 for unsure.
 #[inline(always)]
 pub fn voted(symbol: Option<u8>) -> u32 {
@@ -131,6 +147,14 @@ pub fn rm_read(q: u32, m: u32, message: &mut [u8], word: &[u8]) -> u32 {
     let (length, word_length) = (message.len(), word.len());
     // SAFETY: each pointer and length is that of a slice lent for the call.
     unsafe { raw::rm_read(q, m, message.as_mut_ptr(), length, word.as_ptr(), word_length) }
+}
+
+/// The refusal number, or `NEAR` or `NOT_NEAR`.
+#[inline]
+pub fn near(q: u32, m: u32, message: &[u8], word: &[u8]) -> u32 {
+    let (length, word_length) = (message.len(), word.len());
+    // SAFETY: each pointer and length is that of a slice lent for the call.
+    unsafe { raw::compare_near(q, m, message.as_ptr(), length, word.as_ptr(), word_length) }
 }
 
 /// The refusal number, or `DONE` with the session.

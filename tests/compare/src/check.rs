@@ -1,5 +1,5 @@
-//! Buffers with guards, the count of answers, and the report of mismatches: what every comparison uses. And the
-//! comparison of one call on a message and a word.
+//! Buffers with guards, the count of answers, and the report of mismatches: what every comparison uses; and how one
+//! call on a message and a word is compared, for encode, decode and near.
 
 use std::fmt::Display;
 

@@ -11,6 +11,8 @@ mod examples;
 mod lister;
 mod listings;
 mod model;
+mod near;
+mod near_cases;
 mod session_model;
 mod sessions;
 mod soft;
@@ -27,6 +29,7 @@ use codec::Codec;
 use common::random::Random;
 use listings::Listings;
 use model::Model;
+use near::Near;
 use sessions::Sessions;
 use soft::Soft;
 use strap::Strap;
@@ -36,6 +39,9 @@ const SEED: u64 = 0x5742_7d01_e5a1_9c33;
 const RANDOM_ENCODES: u32 = 250_000;
 const RANDOM_DECODES: u32 = 800_000;
 const QUARTER_ROUNDS: u32 = 1000;
+const NEAR_ROUNDS: u32 = 50;
+const NEAR_READS: u32 = 500;
+const RANDOM_NEARS: u32 = 200_000;
 const RANDOM_OPENINGS: u32 = 5000;
 const ANY_LISTS: u32 = 80_000;
 const WHOLE_LISTS: u32 = 40;
@@ -54,6 +60,7 @@ fn main() -> ExitCode {
     listings(&mut report, &mut random, &model);
     soft(&mut report, &mut random);
     strap(&mut report, &mut random);
+    near(&mut report, &mut random);
     finish(&report)
 }
 
@@ -116,6 +123,20 @@ fn strap(report: &mut Report, random: &mut Random) {
     strap.every_byte(report, random);
     strap.every_length(report, random);
     strap.finish(report);
+}
+
+fn near(report: &mut Report, random: &mut Random) {
+    let mut near = Near::new();
+    println!("compare: near, every message and every word of the codes with four places");
+    near.every_word(report);
+    println!(
+        "compare: near around the quarter, beside decode, with every combination of faults, and {RANDOM_NEARS} random"
+    );
+    near.around_the_quarter(report, random, NEAR_ROUNDS);
+    near.beside_decode(report, random, NEAR_READS);
+    near.every_fault(report, random);
+    near.random(report, random, RANDOM_NEARS);
+    near.finish(report);
 }
 
 fn finish(report: &Report) -> ExitCode {

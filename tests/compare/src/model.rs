@@ -174,6 +174,13 @@ pub fn encode(q: u32, m: u32, message: &[u8], word_len: usize) -> Result<Vec<u8>
     Ok(codeword(q, message))
 }
 
+/// Whether the message is near the word, whose symbols may be any, or the number of the first question answered no: 1,
+/// 2, 5, 6, 7. The whole codeword is written, and every place of it counts.
+pub fn near(q: u32, m: u32, message: &[u8], word: &[u8]) -> Result<bool, u32> {
+    let written = encode(q, m, message, word.len())?;
+    Ok(is_near(word.len(), distance(&written, word)))
+}
+
 /// The second implementation of decode, with the codebooks that its search needs.
 pub struct Model {
     codebooks: Vec<Codebook>,
