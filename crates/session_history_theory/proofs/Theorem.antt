@@ -323,3 +323,10 @@ whole-sessions q m sender receiver a b t l sends calls =
     let (_, _, f) = receiver-opened q m receiver b in
     subst₂ (λ s r. WholeSessions q m t (senderSlots s sends) (receiverSlots r calls) (senderAfter s sends) (receiverAfter r calls)) e f
     (from-openings q m t alphabet variables sends calls)
+
+-- every slot of the strap was sent by a session of this q and m, from some last constant
+pub strap-word : (q m : ℕ) (sender : Sender) → openSender q m ≡ some sender → (sends : List Send) (j : ℕ) (x : SenderSlot)
+    → getElem? (senderSlots sender sends) j ≡ some x → (last : ℕ) × SentFrom q m last x
+strap-word q m sender a sends j x e =
+    let (alphabet, variables, f) = sender-opened q m sender a in
+    (_, strap-sent q m alphabet variables sends j x (subst (λ s. getElem? (senderSlots s sends) j ≡ some x) (sym f) e))
