@@ -5,6 +5,11 @@ pub fn alter(q: u32, symbol: &mut u8, error: u8) {
     *symbol = (*symbol + error) % q as u8;
 }
 
+/// The symbols with the same error added to each, modulo q.
+pub fn turned(q: u32, symbols: &[u8], error: u8) -> Vec<u8> {
+    symbols.iter().map(|symbol| (symbol + error) % q as u8).collect()
+}
+
 /// A xorshift generator.
 pub struct Random(u64);
 

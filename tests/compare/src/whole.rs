@@ -4,7 +4,7 @@
 
 use common::calls::DONE;
 use common::questions::{CODES, STRAP};
-use common::random::Random;
+use common::random::{turned, Random};
 use common::session::{SLOTS, SLOT_MS};
 
 use crate::cases;
@@ -16,21 +16,23 @@ use crate::sessions::{Call, Sessions, Slices};
 /// What became of a slot of the launch: fewer than a quarter of the symbols altered, read in spite of heavier damage,
 /// or missed or doubtful.
 #[derive(Clone, Copy, Debug, PartialEq, Eq)]
-enum Slot {
+pub enum Slot {
     Light,
     Heavy,
     Unread,
 }
 
 /// A strap and a launch with the slots so far.
-struct Lists {
+pub struct Lists {
     q: u32,
     m: u32,
-    turn: u8,
-    strap: Slices,
+    pub turn: u8,
+    /// As it was when it had sent the word of the launch's slot.
+    pub strap: Slices,
     launch: Slices,
+    sent: u32,
     slot: u32,
-    before: Option<Slot>,
+    pub before: Option<Slot>,
 }
 
 /// The slots of the launch by what became of them, and those whose zone the claim speaks of.
@@ -80,21 +82,15 @@ impl Whole {
         sessions: &mut Sessions,
         report: &mut Report,
         random: &mut Random,
-        (q, m): (u32, u32),
+        code: (u32, u32),
         slots: u32,
     ) -> Lists {
-        let (mut strap, mut launch) = (Slices::new([7; 4]), Slices::new([7; 4]));
-        let opened = sessions.call(report, Call::OpenSender(q, m), &mut strap);
-        let both = opened == DONE && sessions.call(report, Call::OpenReceiver(q, m), &mut launch) == DONE;
-        report.require(both, || format!("sessions of q {q}, m {m} not opened"));
-        let turn = random.below(q as usize) as u8;
-        let mut lists = Lists { q, m, turn, strap, launch, slot: 0, before: None };
+        let mut lists = Lists::open(sessions, report, random, code);
         for _ in 0..slots {
             lists.send(sessions, report, random);
-            let slot = lists.launch_slot(sessions, report, random);
+            let slot = lists.launch_slot(sessions, report, random, None);
             self.count(&lists, slot);
-            lists.before = Some(slot);
-            lists.slot += 1;
+            lists.end_slot(slot);
         }
         lists
     }
@@ -123,15 +119,26 @@ impl Whole {
 }
 
 impl Lists {
+    /// Both sessions opened in this code, with a turn for all slots.
+    pub fn open(sessions: &mut Sessions, report: &mut Report, random: &mut Random, (q, m): (u32, u32)) -> Lists {
+        let (mut strap, mut launch) = (Slices::new([7; 4]), Slices::new([7; 4]));
+        let opened = sessions.call(report, Call::OpenSender(q, m), &mut strap);
+        let both = opened == DONE && sessions.call(report, Call::OpenReceiver(q, m), &mut launch) == DONE;
+        report.require(both, || format!("sessions of q {q}, m {m} not opened"));
+        let turn = random.below(q as usize) as u8;
+        Lists { q, m, turn, strap, launch, sent: 0, slot: 0, before: None }
+    }
+
     /// The strap sends the next word, at times after a call that is refused.
-    fn send(&mut self, sessions: &mut Sessions, report: &mut Report, random: &mut Random) {
+    pub fn send(&mut self, sessions: &mut Sessions, report: &mut Report, random: &mut Random) {
         if random.one_in(4) {
             self.fill_strap(random);
             refuse(sessions, report, random, Call::Send, &mut self.strap);
         }
         self.fill_strap(random);
         let number = sessions.call(report, Call::Send, &mut self.strap);
-        report.require(number == DONE, || format!("slot {} not sent: {number}, {:?}", self.slot, self.strap));
+        report.require(number == DONE, || format!("slot {} not sent: {number}, {:?}", self.sent, self.strap));
+        self.sent += 1;
     }
 
     fn fill_strap(&mut self, random: &mut Random) {
@@ -141,15 +148,25 @@ impl Lists {
 
     /// The word that the strap sent last, turned.
     fn turned(&self) -> Vec<u8> {
-        self.strap.word.iter().map(|symbol| (symbol + self.turn) % self.q as u8).collect()
+        turned(self.q, &self.strap.word, self.turn)
     }
 
-    /// The launch misses the slot or receives the word with damage, at times after a call that is refused.
-    fn launch_slot(&mut self, sessions: &mut Sessions, report: &mut Report, random: &mut Random) -> Slot {
+    /// The launch misses the slot or receives the word as it arrived, or with damage where none is given, at times after
+    /// a call that is refused.
+    pub fn launch_slot(
+        &mut self,
+        sessions: &mut Sessions,
+        report: &mut Report,
+        random: &mut Random,
+        arrived: Option<Vec<u8>>,
+    ) -> Slot {
         self.fill_launch(random);
         if random.one_in(4) {
             refuse(sessions, report, random, Call::Receive, &mut self.launch);
             self.fill_launch(random);
+        }
+        if let Some(word) = arrived {
+            self.launch.word = word;
         }
         if random.one_in(8) {
             let number = sessions.call(report, Call::Miss, &mut self.launch);
@@ -168,6 +185,12 @@ impl Lists {
         let count = if random.one_in(2) { random.below(n / 4) } else { cases::damage_count(random, n) };
         self.launch.message = random.bytes(self.m as usize + 1);
         self.launch.word = cases::damaged(random, q, &message, count);
+    }
+
+    /// The launch goes on to the next slot.
+    pub fn end_slot(&mut self, slot: Slot) {
+        self.before = Some(slot);
+        self.slot += 1;
     }
 
     /// What "Whole sessions" says of a slot whose word was received with this answer, the reference held before.
