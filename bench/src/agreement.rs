@@ -13,6 +13,7 @@ const ENTRY: u8 = 77;
 type Read = fn(u32, u32, &mut [u8], &[u8]) -> u64;
 type Write = fn(u32, u32, &[u8], &mut [u8]) -> u64;
 type Near = fn(u32, u32, &[u8], &[u8]) -> u32;
+type Rearrange = fn(u32, u32, u32, &[u8], &mut [u8]) -> u32;
 type SoftVote = fn(u32, u32, &[f32], &[f32], &mut [f32]) -> u32;
 type SoftRead = fn(u32, &mut [u8], &[f32], &[f32]) -> u32;
 
@@ -83,6 +84,31 @@ fn nears(q: u32, m: u32, distance: Distance) -> Result<usize, String> {
     Ok(words.len())
 }
 
+/// The groups as they are, and with their last symbol outside the alphabet.
+fn rearranged(q: u32, m: u32, count: u32) -> Result<usize, String> {
+    let mut groups = inputs::groups(q, m, count);
+    groups.extend(inputs::groups(q, m, count).into_iter().map(|mut group| {
+        *group.last_mut().expect("a symbol") += q as u8;
+        group
+    }));
+    for group in &groups {
+        let answer = |call: Rearrange| {
+            let mut target = vec![ENTRY; group.len()];
+            (call(q, m, count, group, &mut target), target)
+        };
+        let others = [
+            ("interleave (a)", proved::interleave as Rearrange, calls::plain_interleave as Rearrange),
+            ("interleave (b)", proved::interleave, calls::safe_interleave),
+            ("deinterleave (a)", proved::deinterleave, calls::plain_deinterleave),
+            ("deinterleave (b)", proved::deinterleave, calls::safe_deinterleave),
+        ];
+        for (name, proved, call) in others {
+            same(name, format!("q {q}, m {m}, {count} words, {group:?}"), answer(proved), answer(call))?;
+        }
+    }
+    Ok(groups.len())
+}
+
 fn soft(m: u32) -> Result<usize, String> {
     let samples = inputs::samples(m);
     for Samples { re, im } in &samples {
@@ -113,6 +139,9 @@ pub fn all() -> Result<usize, String> {
         count += writes(q, m)?;
         for distance in inputs::DISTANCES.into_iter().chain([Distance::Quarter]) {
             count += nears(q, m, distance)?;
+        }
+        for words in 1..=16 {
+            count += rearranged(q, m, words)?;
         }
     }
     for m in LEAST_M..=GREATEST_M {

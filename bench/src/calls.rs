@@ -2,7 +2,7 @@
 
 use common::questions::Refusal;
 
-use crate::{near, plain, proved, safe, soft, Reading};
+use crate::{interleave, near, plain, proved, safe, soft, Reading};
 
 #[inline(always)]
 fn written(answer: Result<(), Refusal>) -> u64 {
@@ -17,6 +17,11 @@ fn reading(answer: Result<Reading, Refusal>) -> u64 {
 #[inline(always)]
 fn is_near(answer: Result<bool, Refusal>) -> u32 {
     answer.map_or_else(|number| number, |near| if near { proved::NEAR } else { proved::NOT_NEAR })
+}
+
+#[inline(always)]
+fn done(answer: Result<(), Refusal>) -> u32 {
+    answer.map_or_else(|number| number, |()| proved::DONE)
 }
 
 #[inline(never)]
@@ -64,6 +69,26 @@ pub fn near_by_quarters(q: u32, m: u32, message: &[u8], word: &[u8]) -> u32 {
     near::by_quarters(q, m, message, word)
 }
 
+#[inline(never)]
+pub fn plain_interleave(q: u32, m: u32, count: u32, source: &[u8], target: &mut [u8]) -> u32 {
+    done(plain::interleave(q, m, count, source, target))
+}
+
+#[inline(never)]
+pub fn plain_deinterleave(q: u32, m: u32, count: u32, source: &[u8], target: &mut [u8]) -> u32 {
+    done(plain::deinterleave(q, m, count, source, target))
+}
+
+#[inline(never)]
+pub fn safe_interleave(q: u32, m: u32, count: u32, source: &[u8], target: &mut [u8]) -> u32 {
+    interleave::rearrange::<false>(q, m, count, source, target)
+}
+
+#[inline(never)]
+pub fn safe_deinterleave(q: u32, m: u32, count: u32, source: &[u8], target: &mut [u8]) -> u32 {
+    interleave::rearrange::<true>(q, m, count, source, target)
+}
+
 /// Leaves both sums in the slice of two.
 #[inline(never)]
 pub fn soft_vote(m: u32, k: u32, re: &[f32], im: &[f32], sums: &mut [f32]) -> u32 {
@@ -80,5 +105,5 @@ pub fn soft_vote(m: u32, k: u32, re: &[f32], im: &[f32], sums: &mut [f32]) -> u3
 
 #[inline(never)]
 pub fn soft_read(m: u32, message: &mut [u8], re: &[f32], im: &[f32]) -> u32 {
-    soft::read(m, message, re, im).map_or_else(|number| number, |()| proved::DONE)
+    done(soft::read(m, message, re, im))
 }

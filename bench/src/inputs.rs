@@ -1,4 +1,5 @@
-//! The inputs: messages, words of three kinds, words beside messages, soft samples, and the lines of a full session.
+//! The inputs: messages, words of three kinds, words beside messages, groups of words, soft samples, and the lines
+//! of a full session.
 
 use common::questions::STRAP;
 use common::random::{alter, Random};
@@ -10,6 +11,9 @@ use crate::proved::WRITTEN;
 
 /// How many inputs of each kind: too many for the branch predictor.
 pub const COUNT: usize = 1024;
+
+/// How many groups of words: so few that the largest lie in the nearest cache. No branch depends on their symbols.
+pub const GROUPS: usize = 4;
 
 /// The inputs are the same in every run.
 const SEED: u64 = 0x9e37_79b9_7f4a_7c15;
@@ -107,6 +111,12 @@ pub fn pairs(q: u32, m: u32, distance: Distance) -> Pairs {
     };
     let (messages, words) = (0..COUNT).map(|_| pair()).unzip();
     Pairs { messages, words }
+}
+
+/// Groups of so many words.
+pub fn groups(q: u32, m: u32, count: u32) -> Vec<Vec<u8>> {
+    let mut random = Random::new(SEED);
+    (0..GROUPS).map(|_| random.symbols(q, (count as usize) << m)).collect()
 }
 
 /// Soft samples of one word: real and imaginary parts.

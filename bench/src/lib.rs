@@ -4,6 +4,7 @@ pub mod agreement;
 pub mod calls;
 pub mod counting;
 pub mod inputs;
+pub mod interleave;
 pub mod lister;
 pub mod near;
 pub mod passes;

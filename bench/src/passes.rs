@@ -2,7 +2,7 @@
 
 use std::hint::black_box;
 
-use crate::inputs::{Pairs, Samples};
+use crate::inputs::{Pairs, Samples, COUNT, GROUPS};
 
 pub type Pass<'a> = Box<dyn FnMut() + 'a>;
 
@@ -41,6 +41,25 @@ pub fn near<'a>(call: impl Fn(u32, u32, &[u8], &[u8]) -> u32 + 'a, q: u32, m: u3
     Box::new(move || {
         for (message, word) in pairs.messages.iter().zip(&pairs.words) {
             black_box(call(black_box(q), black_box(m), black_box(message), black_box(word)));
+        }
+    })
+}
+
+/// Rearranges every group of so many words, or puts it back, as often as makes the calls of a pass.
+pub fn rearrange<'a>(
+    call: impl Fn(u32, u32, u32, &[u8], &mut [u8]) -> u32 + 'a,
+    q: u32,
+    m: u32,
+    count: u32,
+    groups: &'a [Vec<u8>],
+) -> Pass<'a> {
+    let mut target = vec![0; (count as usize) << m];
+    Box::new(move || {
+        for _ in 0..COUNT / GROUPS {
+            for group in groups {
+                let target = black_box(&mut target);
+                black_box(call(black_box(q), black_box(m), black_box(count), black_box(group), target));
+            }
         }
     })
 }

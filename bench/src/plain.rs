@@ -97,3 +97,36 @@ pub fn near(q: u32, m: u32, message: &[u8], word: &[u8]) -> Result<bool, Refusal
     let wrong = code.iter().zip(word).filter(|(x, y)| x != y).count();
     Ok(4 * wrong < word.len())
 }
+
+/// The questions about a group of words, which both rearranging and putting back ask: 1, 2, 14, 7, 7, 8.
+fn answer_group(q: u32, m: u32, count: u32, source: &[u8], target: &[u8]) -> Result<(), Refusal> {
+    answer_code(q, m)?;
+    yes((1..=16).contains(&count), 14)?;
+    yes(source.len() == (count as usize) << m, 7)?;
+    yes(target.len() == (count as usize) << m, 7)?;
+    yes(all_below(q, source), 8)
+}
+
+/// Rearranges the words of a group, or gives the number of the first question answered no.
+pub fn interleave(q: u32, m: u32, count: u32, source: &[u8], target: &mut [u8]) -> Result<(), Refusal> {
+    answer_group(q, m, count, source, target)?;
+    let (words, n) = (count as usize, 1 << m);
+    for w in 0..words {
+        for s in 0..n {
+            target[s * words + w] = source[w * n + s];
+        }
+    }
+    Ok(())
+}
+
+/// Puts the words of a group back, or gives the number of the first question answered no.
+pub fn deinterleave(q: u32, m: u32, count: u32, source: &[u8], target: &mut [u8]) -> Result<(), Refusal> {
+    answer_group(q, m, count, source, target)?;
+    let (words, n) = (count as usize, 1 << m);
+    for w in 0..words {
+        for s in 0..n {
+            target[w * n + s] = source[s * words + w];
+        }
+    }
+    Ok(())
+}

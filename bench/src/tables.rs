@@ -220,6 +220,49 @@ fn near_words(decode: &[Ratio], plain: &[Ratio], places: &[Ratio], quarters: &[R
     }
 }
 
+/// The groups that are timed, as (count of words, m): those that the bar is for, and a few of the rest.
+const BARRED: [(u32, u32); 4] = [(2, 4), (4, 4), (16, 4), (16, 8)];
+const OTHERS: [(u32, u32); 5] = [(1, 8), (3, 4), (8, 4), (16, 2), (7, 8)];
+
+/// Interleave: rearranging groups of words and putting them back, q 4.
+pub fn interleave() {
+    let rows: Vec<_> = BARRED.into_iter().chain(OTHERS).map(|(w, m)| (w, m, inputs::groups(4, m, w))).collect();
+    let forth = sweep("interleave", &rows, |&(w, m, ref groups)| {
+        [
+            passes::rearrange(proved::interleave, 4, m, w, groups),
+            passes::rearrange(calls::plain_interleave, 4, m, w, groups),
+            passes::rearrange(calls::safe_interleave, 4, m, w, groups),
+        ]
+    });
+    let back = sweep("deinterleave", &rows, |&(w, m, ref groups)| {
+        [
+            passes::rearrange(proved::deinterleave, 4, m, w, groups),
+            passes::rearrange(calls::plain_deinterleave, 4, m, w, groups),
+            passes::rearrange(calls::safe_deinterleave, 4, m, w, groups),
+        ]
+    });
+    let ratios = |other: usize| -> Vec<[Ratio; 2]> {
+        let each = rows.iter().zip(forth.iter().zip(&back));
+        each.map(|((w, m, _), (forth, back))| {
+            [(forth, "rearranged"), (back, "put back")]
+                .map(|(times, name)| Ratio::new(times[other], times[0], &format!("words {w}, m {m}, {name}")))
+        })
+        .collect()
+    };
+    let (plain, best) = (ratios(1), ratios(2));
+    head(&["words", "m", "ns, rearranged", "(a)", "(b)", "ns, put back", "(a)", "(b)"]);
+    for (i, (w, m, _)) in rows.iter().enumerate() {
+        let cells = |side: usize, times: &Times<3>| {
+            [format!("{:.1}", times[0]), plain[i][side].to_string(), best[i][side].to_string()]
+        };
+        row([vec![w.to_string(), m.to_string()], [cells(0, &forth[i]), cells(1, &back[i])].concat()].concat());
+    }
+    least("to (a)", plain.as_flattened());
+    let (barred, others) = best.split_at(BARRED.len());
+    verdict(1.0, "to (b) of 2, 4 and 16 words at m 4 and of 16 at m 8", barred.as_flattened());
+    least("to (b) of the other groups", others.as_flattened());
+}
+
 /// One soft vote and the soft read: every m.
 pub fn soft() {
     let rows: Vec<_> = (LEAST_M..=GREATEST_M).map(|m| (m, inputs::samples(m))).collect();

@@ -6,7 +6,8 @@ use std::process::ExitCode;
 
 use bench::{agreement, counting, inputs, plot, tables};
 
-const COMMANDS: &str = "agreement | inputs | decode | encode | near | soft | plot | session | list | count";
+const COMMANDS: &str =
+    "agreement | inputs | decode | encode | near | interleave | soft | plot | session | list | count";
 
 fn number<T: std::str::FromStr>(text: &str) -> Result<T, String> {
     text.parse().map_err(|_| format!("not a number: {text}"))
@@ -23,6 +24,7 @@ fn run(arguments: &[&str]) -> Result<(), String> {
         ["decode"] => tables::decode(),
         ["encode"] => tables::encode(),
         ["near"] => tables::near(),
+        ["interleave"] => tables::interleave(),
         ["soft"] => tables::soft(),
         ["plot", file] => write(file, plot::decode()?)?,
         ["session", file] => write(file, inputs::session())?,

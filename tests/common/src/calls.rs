@@ -40,6 +40,28 @@ mod raw {
         ) -> u32;
     }
 
+    #[link(name = "compare_interleave", kind = "static")]
+    extern "C" {
+        pub fn compare_interleave(
+            q: u32,
+            m: u32,
+            count: u32,
+            source: *const u8,
+            source_len: usize,
+            target: *mut u8,
+            target_len: usize,
+        ) -> u32;
+        pub fn compare_deinterleave(
+            q: u32,
+            m: u32,
+            count: u32,
+            source: *const u8,
+            source_len: usize,
+            target: *mut u8,
+            target_len: usize,
+        ) -> u32;
+    }
+
     #[link(name = "compare_session", kind = "static")]
     extern "C" {
         pub fn compare_open_sender(q: u32, m: u32, session: *mut u32, session_len: usize) -> u32;
@@ -155,6 +177,22 @@ pub fn near(q: u32, m: u32, message: &[u8], word: &[u8]) -> u32 {
     let (length, word_length) = (message.len(), word.len());
     // SAFETY: each pointer and length is that of a slice lent for the call.
     unsafe { raw::compare_near(q, m, message.as_ptr(), length, word.as_ptr(), word_length) }
+}
+
+/// The refusal number, or `DONE` with the group rearranged in the target.
+#[inline]
+pub fn interleave(q: u32, m: u32, count: u32, source: &[u8], target: &mut [u8]) -> u32 {
+    let (length, target_length) = (source.len(), target.len());
+    // SAFETY: each pointer and length is that of a slice lent for the call.
+    unsafe { raw::compare_interleave(q, m, count, source.as_ptr(), length, target.as_mut_ptr(), target_length) }
+}
+
+/// The refusal number, or `DONE` with the group put back in the target.
+#[inline]
+pub fn deinterleave(q: u32, m: u32, count: u32, source: &[u8], target: &mut [u8]) -> u32 {
+    let (length, target_length) = (source.len(), target.len());
+    // SAFETY: each pointer and length is that of a slice lent for the call.
+    unsafe { raw::compare_deinterleave(q, m, count, source.as_ptr(), length, target.as_mut_ptr(), target_length) }
 }
 
 /// The refusal number, or `DONE` with the session.

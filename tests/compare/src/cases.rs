@@ -44,21 +44,26 @@ pub fn decode_case(random: &mut Random, (q, m): (u32, u32)) -> Case {
     if faults[2] {
         spoil_symbols(random, q, &mut case.word);
     }
-    spoil(random, faults, &mut case);
+    spoil(random, faults, (&mut case.q, &mut case.m), [&mut case.message, &mut case.word]);
     case
 }
 
 /// A sound case with up to all faults of a call that asks for the message's symbols and not for the word's.
 pub fn with_message_faults(random: &mut Random, mut case: Case) -> Case {
-    let faults = faults(random);
-    if faults[2] {
-        spoil_symbols(random, case.q, &mut case.message);
-    }
-    spoil(random, faults, &mut case);
+    add_faults(random, (&mut case.q, &mut case.m), [&mut case.message, &mut case.word]);
     case
 }
 
-/// Which faults a case gets: of q, of m, of a symbol, of the message's length, of the word's length.
+/// Up to all faults of a call on two slices that asks for the symbols of the first and not for those of the second.
+pub fn add_faults(random: &mut Random, (q, m): (&mut u32, &mut u32), [first, second]: [&mut Vec<u8>; 2]) {
+    let faults = faults(random);
+    if faults[2] {
+        spoil_symbols(random, *q, first);
+    }
+    spoil(random, faults, (q, m), [first, second]);
+}
+
+/// Which faults a case gets: of q, of m, of a symbol, of the first slice's length, of the second's.
 fn faults(random: &mut Random) -> [bool; 5] {
     let mut faults = [false; 5];
     match random.below(8) {
@@ -69,19 +74,18 @@ fn faults(random: &mut Random) -> [bool; 5] {
     faults
 }
 
-fn spoil(random: &mut Random, faults: [bool; 5], case: &mut Case) {
-    let [alphabet, m, _, message, word] = faults;
+fn spoil(random: &mut Random, faults: [bool; 5], (q, m): (&mut u32, &mut u32), slices: [&mut Vec<u8>; 2]) {
+    let [alphabet, variables, _, lengths @ ..] = faults;
     if alphabet {
-        case.q = other_number(random, &BAD_ALPHABETS, &ALPHABETS);
+        *q = other_number(random, &BAD_ALPHABETS, &ALPHABETS);
     }
-    if m {
-        case.m = other_number(random, &BAD_M, &[2, 3, 4, 5, 6, 7, 8]);
+    if variables {
+        *m = other_number(random, &BAD_M, &[2, 3, 4, 5, 6, 7, 8]);
     }
-    if message {
-        spoil_length(random, &mut case.message);
-    }
-    if word {
-        spoil_length(random, &mut case.word);
+    for (slice, length) in slices.into_iter().zip(lengths) {
+        if length {
+            spoil_length(random, slice);
+        }
     }
 }
 

@@ -4,10 +4,15 @@
 //!
 //! The last line is `compare: ok, N cases`; any mismatch is printed and ends the program with status 1.
 
+mod bursts;
 mod cases;
 mod check;
 mod codec;
 mod examples;
+mod groups;
+mod interleave;
+mod interleave_cases;
+mod interleave_model;
 mod lister;
 mod listings;
 mod model;
@@ -24,9 +29,12 @@ mod whole;
 
 use std::process::ExitCode;
 
+use bursts::Bursts;
 use check::Report;
 use codec::Codec;
 use common::random::Random;
+use groups::Groups;
+use interleave::Interleave;
 use listings::Listings;
 use model::Model;
 use near::Near;
@@ -42,6 +50,10 @@ const QUARTER_ROUNDS: u32 = 1000;
 const NEAR_ROUNDS: u32 = 50;
 const NEAR_READS: u32 = 500;
 const RANDOM_NEARS: u32 = 200_000;
+const GROUP_ROUNDS: u32 = 16;
+const RANDOM_GROUPS: u32 = 200_000;
+const BURSTS: u32 = 64;
+const WHOLE_GROUPS: u32 = 8;
 const RANDOM_OPENINGS: u32 = 5000;
 const ANY_LISTS: u32 = 80_000;
 const WHOLE_LISTS: u32 = 40;
@@ -61,6 +73,7 @@ fn main() -> ExitCode {
     soft(&mut report, &mut random);
     strap(&mut report, &mut random);
     near(&mut report, &mut random);
+    groups(&mut report, &mut random, &model);
     finish(&report)
 }
 
@@ -137,6 +150,27 @@ fn near(report: &mut Report, random: &mut Random) {
     near.every_fault(report, random);
     near.random(report, random, RANDOM_NEARS);
     near.finish(report);
+}
+
+fn groups(report: &mut Report, random: &mut Random, model: &Model) {
+    let mut interleave = Interleave::new();
+    let mut bursts = Bursts::new();
+    let mut groups = Groups::new();
+    println!("compare: groups of every number of words, there and back, and where the symbol of every place goes");
+    interleave.every_group(report, random, GROUP_ROUNDS);
+    interleave.every_place(report, random);
+    println!("compare: groups with every count of words, with every combination of faults, and {RANDOM_GROUPS} random");
+    interleave.every_number(report, random);
+    interleave.every_fault(report, random);
+    interleave.random(report, random, RANDOM_GROUPS);
+    println!("compare: bursts from every place, {BURSTS} and {BURSTS} longer in groups of every number of words");
+    bursts.every_start(&mut interleave, report, random);
+    bursts.random(&mut interleave, report, random, BURSTS);
+    println!("compare: whole sessions of {WHOLE_GROUPS} groups, of every number of words in each code");
+    groups.lists(&mut Sessions::new(model), &mut interleave, report, random, WHOLE_GROUPS);
+    interleave.finish(report);
+    bursts.finish(report);
+    groups.finish(report);
 }
 
 fn finish(report: &Report) -> ExitCode {

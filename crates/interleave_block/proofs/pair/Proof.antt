@@ -1,0 +1,47 @@
+-- `pair` meets its contract: what is copied, shuffled and copied is transposed.
+use native.Mathlib.Omega.{arith}
+use borrow.Author.Needs.{needs}
+use Rattle.interleave_block.proofs.BlockLaws.{through-copies}
+use Rattle.interleave_block.proofs.pair.Statement.{statement}
+use Rattle.interleave_block.proofs.pair.Tie as tie
+
+slice-aggregate-copy : tie.Need-slice-aggregate-copy
+slice-aggregate-copy c = search needs
+
+copy-requires : tie.Need-copy-requires
+copy-requires c κs = search needs
+
+slice-aggregate-shuffle : tie.Need-slice-aggregate-shuffle
+slice-aggregate-shuffle c = search needs
+
+slice-aggregate-shuffle-2 : tie.Need-slice-aggregate-shuffle-2
+slice-aggregate-shuffle-2 c = search needs
+
+shuffle-requires : tie.Need-shuffle-requires
+shuffle-requires c κs = search needs
+
+slice-aggregate-copy-2 : tie.Need-slice-aggregate-copy-2
+slice-aggregate-copy-2 c = search needs
+
+copy-requires-2 : tie.Need-copy-requires-2
+copy-requires-2 c κs = search needs
+
+same-length : tie.Need-same-length
+same-length c = search needs
+
+returns : tie.Need-returns
+returns c = through-copies 32 2 16 _ _ _ _ _ _ (omega arith) (c .before .before .before .before .before .before .before .before .before .before .before .before .before .before .pre .1) (c .before .before .before .before .before .before .before .before .before .before .copy .ensures) (c .before .before .before .before .before .before .shuffle .ensures .0) (c .before .before .copy2 .ensures)
+
+pub pair-spec : {M : Type 1} → statement M
+pair-spec =
+    tie.close
+    (tie.spec
+    slice-aggregate-copy
+    copy-requires
+    slice-aggregate-shuffle
+    slice-aggregate-shuffle-2
+    shuffle-requires
+    slice-aggregate-copy-2
+    copy-requires-2
+    same-length
+    returns)

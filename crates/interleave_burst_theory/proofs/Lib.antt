@@ -1,0 +1,4 @@
+pub mod RunLaws
+pub mod JoinLaws
+pub mod Theorem
+pub mod Example
