@@ -151,8 +151,8 @@ impl Lists {
         turned(self.q, &self.strap.word, self.turn)
     }
 
-    /// The launch misses the slot or receives the word as it arrived, or with damage where none is given, at times after
-    /// a call that is refused.
+    /// The launch misses the slot or receives the word, as it arrived or, where that is not given, with damage; at
+    /// times after a call that is refused.
     pub fn launch_slot(
         &mut self,
         sessions: &mut Sessions,
