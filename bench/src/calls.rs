@@ -71,12 +71,12 @@ pub fn near_by_quarters(q: u32, m: u32, message: &[u8], word: &[u8]) -> u32 {
 
 #[inline(never)]
 pub fn plain_interleave(q: u32, m: u32, count: u32, source: &[u8], target: &mut [u8]) -> u32 {
-    done(plain::interleave(q, m, count, source, target))
+    done(plain::rearrange::<false>(q, m, count, source, target))
 }
 
 #[inline(never)]
 pub fn plain_deinterleave(q: u32, m: u32, count: u32, source: &[u8], target: &mut [u8]) -> u32 {
-    done(plain::deinterleave(q, m, count, source, target))
+    done(plain::rearrange::<true>(q, m, count, source, target))
 }
 
 #[inline(never)]

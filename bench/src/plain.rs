@@ -107,25 +107,21 @@ fn answer_group(q: u32, m: u32, count: u32, source: &[u8], target: &[u8]) -> Res
     yes(all_below(q, source), 8)
 }
 
-/// Rearranges the words of a group, or gives the number of the first question answered no.
-pub fn interleave(q: u32, m: u32, count: u32, source: &[u8], target: &mut [u8]) -> Result<(), Refusal> {
+/// Rearranges the words of a group, or with `BACK` puts them back, or gives the number of the first question answered no.
+pub fn rearrange<const BACK: bool>(
+    q: u32,
+    m: u32,
+    count: u32,
+    source: &[u8],
+    target: &mut [u8],
+) -> Result<(), Refusal> {
     answer_group(q, m, count, source, target)?;
     let (words, n) = (count as usize, 1 << m);
     for w in 0..words {
         for s in 0..n {
-            target[s * words + w] = source[w * n + s];
-        }
-    }
-    Ok(())
-}
-
-/// Puts the words of a group back, or gives the number of the first question answered no.
-pub fn deinterleave(q: u32, m: u32, count: u32, source: &[u8], target: &mut [u8]) -> Result<(), Refusal> {
-    answer_group(q, m, count, source, target)?;
-    let (words, n) = (count as usize, 1 << m);
-    for w in 0..words {
-        for s in 0..n {
-            target[w * n + s] = source[s * words + w];
+            let (in_word, in_group) = (w * n + s, s * words + w);
+            let (from, to) = if BACK { (in_group, in_word) } else { (in_word, in_group) };
+            target[to] = source[from];
         }
     }
     Ok(())

@@ -9,16 +9,16 @@ use lib.Dec.{ltb}
 use lib.ListN.{length}
 use borrow.Author.Tests.{ltb-true, ltb-false}
 use Rattle.code_theory.specs.Sum.{at}
-use Rattle.interleave_theory.specs.Place.{across, transposed}
+use Rattle.interleave_theory.specs.Place.{transposed}
 use Rattle.interleave_theory.specs.Internal.{Transposes}
-use Rattle.interleave_theory.proofs.PlaceLaws.{one-row, one-column, column-lt, across-at, across-lt, transposed-is, transposes-by-rows}
-use Rattle.interleave_block.specs.Internal.{Copied, RowsCopied, Done}
+use Rattle.interleave_theory.proofs.PlaceLaws.{one-row, one-column, column-lt, across-at, transposed-is, transposes-by-rows}
+use Rattle.interleave_block.specs.Internal.{RowsCopied, Done}
 
 -- place k of row r of a block, by the rows and columns of the whole
 in-block : (a s w r k : ℕ) → (s + r) * a + (w + k) ≡ s * a + w + r * a + k
 in-block a s w r k = omega (arith, add-mul s r a)
 
-module _ (a b s w : ℕ) (x empty rows columns y z : List ℕ) (hs : s + 16 ≤ b) (hw : w + 16 ≤ a)
+module _ (a b s w : ℕ) (x empty rows columns y z : List ℕ) (hw : w + 16 ≤ a)
     (taken : RowsCopied 16 x (w * b + s) b empty rows 0 16) (turned : Transposes 16 16 rows columns) (put : RowsCopied 16 columns 0 16 y z (s * a + w) a) where
   -- column r of the source's part is row r of the target's
   block-moved : (r k : ℕ) → r < 16 → k < 16 → at z ((s + r) * a + (w + k)) ≡ at x ((w + k) * b + (s + r))
@@ -62,16 +62,6 @@ module _ (a b s w : ℕ) (x empty rows columns y z : List ℕ) (hs : s + 16 ≤ 
           let place : w + (v - w) ≡ v = omega (arith, l) in
           ap₂ (λ i j. at z (i * a + j)) (sym row) (sym place) ∙ block-moved (u - s) (v - w) (omega (arith, hu, m)) (omega (arith, hv, l))
           ∙ ap₂ (λ i j. at x (i * b + j)) place row
-
--- a group that is copied, transposed and copied is transposed
-pub through-copies : (n a b : ℕ) (x empty rows columns y z : List ℕ) → n ≡ a * b → length y ≡ a * b
-    → Copied n x 0 empty rows 0 → Transposes a b rows columns → Copied n columns 0 y z 0 → z ≡ transposed a b x
-through-copies n a b x empty rows columns y z e size taken turned put = transposed-is a b x z (put .size ∙ size) (record {
-  places = λ p h.
-      let k : across a b p < a * b = across-lt a b p h in
-      ap (at z) (sym (zero-add p)) ∙ put .copied p (omega (arith, h, e)) ∙ ap (at columns) (zero-add p) ∙ turned .places p h
-      ∙ ap (at rows) (sym (zero-add (across a b p))) ∙ taken .copied (across a b p) (omega (arith, k, e)) ∙ ap (at x) (zero-add (across a b p));
-})
 
 -- sixteen rows that are done as far as they go are sixteen rows more
 pub done-rows : (a b s : ℕ) (x y : List ℕ) → Done a b s a x y → Done a b (s + 16) 0 x y

@@ -1,10 +1,11 @@
-// Groups that are moved through small arrays: their symbols are copied out of the source, shuffled, and copied into the target, all at once
+// Groups that are moved through small arrays: their symbols are copied out of the source and shuffled, and so go into the target, all at once
 // where the group is small, and else in blocks of sixteen words by sixteen places. The arrays have a length that the compiler knows, and it
 // keeps what it can of them in registers.
 ghost use mathlib.Core.Path.{_≡_};
-ghost use Prim.Native.Nat.{_+_, _*_, _%_, _≤_};
+ghost use Prim.Native.Nat.{_+_, _*_, _/_, _%_, _^_, _≤_};
 ghost use lib.ListN.{length};
 ghost use Rattle.interleave_theory.specs.Place.{transposed};
+ghost use Rattle.interleave_theory.specs.Internal.{Transposes};
 ghost use Rattle.interleave_block.specs.Internal.{Copied, RowsCopied, Done};
 
 // The n symbols from place i on, copied to place j on.
@@ -27,31 +28,33 @@ fn copy_rows(from: &[u8], i: usize, a: usize, to: &mut [u8], j: usize, b: usize)
     }
 }
 
-// Two words of sixteen places rearranged.
-pub fn pair(from: &[u8], to: &mut [u8])
-    requires { ⌜ (length (now from) ≡ 32) × (length (now to) ≡ 32) ⌝ }
-    ensures { λ r. ⌜ now (to .exit) ≡ transposed 2 16 (now (from .entry)) ⌝ }
+// The first 2 * half places of `row` shuffled. Their halves are taken apart first, so that all 256 places are shuffled, whatever `half` is.
+// Where it is written out, the compiler keeps both arrays in registers and leaves out the places that nobody reads.
+fn reshuffle(half: usize, apart: &mut [u8], row: &mut [u8])
+    requires { ⌜ (half ≤ 128) × (length (now apart) ≡ 256) × (length (now row) ≡ 256) ⌝ }
+    ensures places { λ r. ⌜ Transposes 2 half (now (row .entry)) (now (row .exit)) ⌝ }
+    ensures size { λ r. ⌜ (length (now (apart .exit)) ≡ 256) × (length (now (row .exit)) ≡ 256) ⌝ }
 {
-    let mut words = [0u8; 32];
-    let mut group = [0u8; 32];
-    copy(32, from, 0, &mut words, 0);
-    interleave_shuffle::shuffle(16, &words, &mut group);
-    copy(32, &group, 0, to, 0);
+    copy(half, row, 0, apart, 0);
+    copy(half, row, half, apart, 128);
+    interleave_shuffle::shuffle(128, apart, row);
 }
 
-// And put back.
-pub fn pair_back(from: &[u8], to: &mut [u8])
-    requires { ⌜ (length (now from) ≡ 32) × (length (now to) ≡ 32) ⌝ }
-    ensures { λ r. ⌜ now (to .exit) ≡ transposed 16 2 (now (from .entry)) ⌝ }
+// A group of 2 * half symbols shuffled so many times, which transposes 2^times rows.
+pub fn shuffle_times(half: usize, times: u32, from: &[u8], to: &mut [u8])
+    requires { ⌜ (half ≤ 128) × (length (now from) ≡ 2 * half) × (length (now to) ≡ 2 * half) × (2 * half % 2 ^ times ≡ 0) ⌝ }
+    ensures { λ r. ⌜ now (to .exit) ≡ transposed (2 ^ times) (2 * half / 2 ^ times) (now (from .entry)) ⌝ }
 {
-    let mut group = [0u8; 32];
-    let mut words = [0u8; 32];
-    copy(32, from, 0, &mut group, 0);
-    interleave_shuffle::unshuffle(16, &group, &mut words);
-    copy(32, &words, 0, to, 0);
+    let mut apart = [0u8; 256];
+    let mut row = [0u8; 256];
+    copy(2 * half, from, 0, &mut row, 0);
+    for k in 0..times {
+        reshuffle(half, &mut apart, &mut row);
+    }
+    copy(2 * half, &row, 0, to, 0);
 }
 
-// Sixteen words of sixteen places rearranged or put back, which is the same.
+// Sixteen words of sixteen places rearranged or put back, which is the same: four shuffles, the last of them straight into the target.
 pub fn square(from: &[u8], to: &mut [u8])
     requires { ⌜ (length (now from) ≡ 256) × (length (now to) ≡ 256) ⌝ }
     ensures { λ r. ⌜ now (to .exit) ≡ transposed 16 16 (now (from .entry)) ⌝ }
@@ -62,8 +65,7 @@ pub fn square(from: &[u8], to: &mut [u8])
     interleave_shuffle::shuffle(128, &even, &mut odd);
     interleave_shuffle::shuffle(128, &odd, &mut even);
     interleave_shuffle::shuffle(128, &even, &mut odd);
-    interleave_shuffle::shuffle(128, &odd, &mut even);
-    copy(256, &even, 0, to, 0);
+    interleave_shuffle::shuffle(128, &odd, to);
 }
 
 // Block k of sixteen words of n places rearranged: places 16 * k to 16 * k + 15 of each word.

@@ -21,7 +21,7 @@ use Rattle.code_theory.proofs.QuestionLaws.{ask-on, alphabet-positive, message-
 use Rattle.codec.specs.Codec.{decodeRefusal, decodeAnswer, decodeMessage}
 use Rattle.interleave_theory.specs.Place.{putBack}
 use Rattle.interleave_theory.specs.Group.{isGroup, groupRefusal, putBackTarget}
-use Rattle.interleave_theory.proofs.GroupLaws.{grouped, rearrange-is, put-back-is}
+use Rattle.interleave_theory.proofs.GroupLaws.{passes, rearrange-is, put-back-is}
 use Rattle.interleave_burst_theory.specs.Burst.{wordOf, alteredIn, wordsOf, sentGroup, Burst, BurstRead}
 use Rattle.interleave_burst_theory.proofs.RunLaws.{run-light, run-empty}
 use Rattle.interleave_burst_theory.proofs.JoinLaws.{Words, codeword-symbols, index-lt, rearranged-at, joined-accepted, put-back-at, put-back-length, put-back-below}
@@ -85,7 +85,7 @@ module _ (q m count : ℕ) (alphabet : isAlphabet q ≡ true) (variables : isVar
       read-accepted : decodeRefusal q m buffer (back w) ≡ 0
       unfolding decodeRefusal
       read-accepted =
-          let g = grouped q m count arrived target z in
+          let g = passes q m count arrived target z in
           ask-on _ _ _ alphabet ∙ ask-on _ _ _ variables ∙ ask-on _ _ _ (message-yes m buffer (size ∙ sym (add-one m)))
           ∙ ask-on _ _ _ (word-yes m (back w) (put-back-length (2 ^ m) count arrived w inside))
           ∙ ask-on _ _ _ (put-back-below (2 ^ m) count arrived w inside q (g .source) (g .below))

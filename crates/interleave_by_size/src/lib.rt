@@ -1,130 +1,93 @@
-// A group of words rearranged and put back, in a way that goes by its size.
+// Rows of symbols transposed, in a way that goes by how many rows there are and how long they are.
 ghost use mathlib.Core.Path.{_≡_};
-ghost use Prim.Native.Nat.{_+_, _*_, _<_};
+ghost use Prim.Native.Nat.{_*_};
 ghost use lib.ListN.{length};
-ghost use Rattle.interleave_theory.specs.Place.{transposed, rearranged, putBack};
-ghost use Rattle.interleave_theory.specs.Internal.{Filled};
+ghost use Rattle.interleave_theory.specs.Place.{transposed};
 
-// Row s of the target: symbol s of each of the a rows of the source.
-fn row(a: usize, b: usize, s: usize, from: &[u8], to: &mut [u8])
-    requires { ⌜ (length (now from) ≡ a * b) × (length (now to) ≡ a * b) × (s < b) × Filled a b (s * a) (now from) (now to) ⌝ }
-    ensures places { λ r. ⌜ Filled a b (s * a + a) (now (from .entry)) (now (to .exit)) ⌝ }
-    ensures size { λ r. ⌜ length (now (to .exit)) ≡ length (now (to .entry)) ⌝ }
+// One row, which is a copy.
+fn one_row(b: usize, from: &[u8], to: &mut [u8])
+    requires { ⌜ (length (now from) ≡ 1 * b) × (length (now to) ≡ 1 * b) ⌝ }
+    ensures { λ r. ⌜ now (to .exit) ≡ transposed 1 b (now (from .entry)) ⌝ }
 {
-    let start = s * a;
-    for w in 0..a {
-        to[start + w] = from[w * b + s];
-    }
+    interleave_rows::rows(b, 1, from, to);
 }
 
-// A group of any size, symbol by symbol: a rows of b symbols transposed.
-fn rows(a: usize, b: usize, from: &[u8], to: &mut [u8])
+// Two rows, by one shuffle.
+fn two_rows(b: usize, from: &[u8], to: &mut [u8])
+    requires { ⌜ (length (now from) ≡ 2 * b) × (length (now to) ≡ 2 * b) ⌝ }
+    ensures { λ r. ⌜ now (to .exit) ≡ transposed 2 b (now (from .entry)) ⌝ }
+{
+    interleave_shuffle::shuffle(b, from, to);
+}
+
+// Four rows: by two shuffles up to sixteen symbols, for which a small scratch is enough, and else symbol by symbol.
+fn four_rows(b: usize, from: &[u8], to: &mut [u8])
+    requires { ⌜ (length (now from) ≡ 4 * b) × (length (now to) ≡ 4 * b) ⌝ }
+    ensures { λ r. ⌜ now (to .exit) ≡ transposed 4 b (now (from .entry)) ⌝ }
+{
+    if b > 16 {
+        return interleave_rows::columns(4, b, from, to);
+    }
+    let mut scratch = [0u8; 64];
+    interleave_shuffle::shuffle_twice(b, from, &mut scratch, to);
+}
+
+// Sixteen rows: by blocks where they have a multiple of sixteen symbols, at once through one array where they have eight, by four shuffles
+// up to four, for which a small scratch is enough, and else symbol by symbol.
+fn sixteen_rows(b: usize, from: &[u8], to: &mut [u8])
+    requires { ⌜ (length (now from) ≡ 16 * b) × (length (now to) ≡ 16 * b) ⌝ }
+    ensures { λ r. ⌜ now (to .exit) ≡ transposed 16 b (now (from .entry)) ⌝ }
+{
+    if b % 16 == 0 {
+        return interleave_block::blocks(b, from, to);
+    }
+    if b == 8 {
+        return interleave_block::shuffle_times(64, 4, from, to);
+    }
+    if b > 4 {
+        return interleave_rows::rows(16, b, from, to);
+    }
+    let mut scratch = [0u8; 64];
+    interleave_shuffle::shuffle_four_times(b, from, &mut scratch, to);
+}
+
+// Rows of sixteen symbols: by blocks where their number is a multiple of sixteen, at once through one array where they are eight, and else
+// symbol by symbol.
+fn sixteen_columns(a: usize, from: &[u8], to: &mut [u8])
+    requires { ⌜ (length (now from) ≡ a * 16) × (length (now to) ≡ a * 16) ⌝ }
+    ensures { λ r. ⌜ now (to .exit) ≡ transposed a 16 (now (from .entry)) ⌝ }
+{
+    if a % 16 == 0 {
+        return interleave_block::blocks_back(a, from, to);
+    }
+    if a == 8 {
+        return interleave_block::shuffle_times(64, 3, from, to);
+    }
+    interleave_rows::any_rows(a, 16, from, to);
+}
+
+// Rows of a number that has no way of its own: by the length of the rows.
+fn other_rows(a: usize, b: usize, from: &[u8], to: &mut [u8])
     requires { ⌜ (length (now from) ≡ a * b) × (length (now to) ≡ a * b) ⌝ }
     ensures { λ r. ⌜ now (to .exit) ≡ transposed a b (now (from .entry)) ⌝ }
 {
-    for s in 0..b {
-        row(a, b, s, from, to);
+    match b {
+        1 => interleave_rows::rows(a, 1, from, to),
+        16 => sixteen_columns(a, from, to),
+        _ => interleave_rows::any_rows(a, b, from, to),
     }
 }
 
-// One word rearranged, which is a copy.
-fn one_word(n: usize, from: &[u8], to: &mut [u8])
-    requires { ⌜ (length (now from) ≡ 1 * n) × (length (now to) ≡ 1 * n) ⌝ }
-    ensures { λ r. ⌜ now (to .exit) ≡ transposed 1 n (now (from .entry)) ⌝ }
+// Rows of any number and length transposed.
+pub fn transpose(a: usize, b: usize, from: &[u8], to: &mut [u8])
+    requires { ⌜ (length (now from) ≡ a * b) × (length (now to) ≡ a * b) ⌝ }
+    ensures { λ r. ⌜ now (to .exit) ≡ transposed a b (now (from .entry)) ⌝ }
 {
-    rows(n, 1, from, to);
-}
-
-// Two words rearranged: at once at sixteen places, and else by one shuffle.
-fn two_words(n: usize, from: &[u8], to: &mut [u8])
-    requires { ⌜ (length (now from) ≡ 2 * n) × (length (now to) ≡ 2 * n) ⌝ }
-    ensures { λ r. ⌜ now (to .exit) ≡ transposed 2 n (now (from .entry)) ⌝ }
-{
-    if n == 16 {
-        return interleave_block::pair(from, to);
+    match a {
+        1 => one_row(b, from, to),
+        2 => two_rows(b, from, to),
+        4 => four_rows(b, from, to),
+        16 => sixteen_rows(b, from, to),
+        _ => other_rows(a, b, from, to),
     }
-    interleave_shuffle::shuffle(n, from, to);
-}
-
-// Four words rearranged: by two shuffles up to sixteen places, for which a small scratch is enough.
-fn four_words(n: usize, from: &[u8], to: &mut [u8])
-    requires { ⌜ (length (now from) ≡ 4 * n) × (length (now to) ≡ 4 * n) ⌝ }
-    ensures { λ r. ⌜ now (to .exit) ≡ transposed 4 n (now (from .entry)) ⌝ }
-{
-    if n > 16 {
-        return rows(4, n, from, to);
-    }
-    let mut scratch = [0u8; 64];
-    interleave_shuffle::shuffle_twice(n, from, &mut scratch, to);
-}
-
-// Sixteen words rearranged: at once at sixteen places, and by blocks above.
-fn sixteen_words(n: usize, from: &[u8], to: &mut [u8])
-    requires { ⌜ (length (now from) ≡ 16 * n) × (length (now to) ≡ 16 * n) ⌝ }
-    ensures { λ r. ⌜ now (to .exit) ≡ transposed 16 n (now (from .entry)) ⌝ }
-{
-    if n == 16 {
-        return interleave_block::square(from, to);
-    }
-    if n % 16 != 0 {
-        return rows(16, n, from, to);
-    }
-    interleave_block::blocks(n, from, to);
-}
-
-// A group of words of n places rearranged.
-pub fn rearrange(count: usize, n: usize, from: &[u8], to: &mut [u8])
-    requires { ⌜ (length (now from) ≡ count * n) × (length (now to) ≡ count * n) ⌝ }
-    ensures { λ r. ⌜ now (to .exit) ≡ rearranged count n (now (from .entry)) ⌝ }
-{
-    match count {
-        1 => one_word(n, from, to),
-        2 => two_words(n, from, to),
-        4 => four_words(n, from, to),
-        16 => sixteen_words(n, from, to),
-        _ => rows(count, n, from, to),
-    }
-}
-
-// Sixteen words put back: at once at sixteen places, and by blocks above.
-fn sixteen_words_back(n: usize, from: &[u8], to: &mut [u8])
-    requires { ⌜ (length (now from) ≡ n * 16) × (length (now to) ≡ n * 16) ⌝ }
-    ensures { λ r. ⌜ now (to .exit) ≡ transposed n 16 (now (from .entry)) ⌝ }
-{
-    if n == 16 {
-        return interleave_block::square(from, to);
-    }
-    if n % 16 != 0 {
-        return rows(n, 16, from, to);
-    }
-    interleave_block::blocks_back(n, from, to);
-}
-
-// Words of sixteen places put back: two of them at once, and else by four shuffles up to four words, for which a small scratch is enough.
-fn sixteen_places_back(count: usize, from: &[u8], to: &mut [u8])
-    requires { ⌜ (length (now from) ≡ 16 * count) × (length (now to) ≡ 16 * count) ⌝ }
-    ensures { λ r. ⌜ now (to .exit) ≡ transposed 16 count (now (from .entry)) ⌝ }
-{
-    if count == 2 {
-        return interleave_block::pair_back(from, to);
-    }
-    if count > 4 {
-        return rows(16, count, from, to);
-    }
-    let mut scratch = [0u8; 64];
-    interleave_shuffle::shuffle_four_times(count, from, &mut scratch, to);
-}
-
-// A group of words of n places put back.
-pub fn put_back(count: usize, n: usize, from: &[u8], to: &mut [u8])
-    requires { ⌜ (length (now from) ≡ n * count) × (length (now to) ≡ n * count) ⌝ }
-    ensures { λ r. ⌜ now (to .exit) ≡ putBack count n (now (from .entry)) ⌝ }
-{
-    if count == 16 {
-        return sixteen_words_back(n, from, to);
-    }
-    if n == 16 {
-        return sixteen_places_back(count, from, to);
-    }
-    rows(n, count, from, to);
 }

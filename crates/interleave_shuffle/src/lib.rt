@@ -17,18 +17,6 @@ pub fn shuffle(half: usize, from: &[u8], to: &mut [u8])
     }
 }
 
-// The symbols of `from` in pairs: the first ones of the pairs, then the second ones. It undoes a shuffle.
-pub fn unshuffle(half: usize, from: &[u8], to: &mut [u8])
-    requires { ⌜ (2 * half ≤ length (now from)) × (2 * half ≤ length (now to)) ⌝ }
-    ensures places { λ r. ⌜ Transposes half 2 (now (from .entry)) (now (to .exit)) ⌝ }
-    ensures size { λ r. ⌜ length (now (to .exit)) ≡ length (now (to .entry)) ⌝ }
-{
-    for i in 0..half {
-        to[i] = from[2 * i];
-        to[half + i] = from[2 * i + 1];
-    }
-}
-
 // Four rows of b symbols transposed.
 pub fn shuffle_twice(b: usize, from: &[u8], scratch: &mut [u8], to: &mut [u8])
     requires { ⌜ (4 * b ≤ length (now from)) × (4 * b ≤ length (now scratch)) × (4 * b ≤ length (now to)) ⌝ }

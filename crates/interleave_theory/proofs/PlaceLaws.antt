@@ -137,7 +137,7 @@ across-twice a c b p ha hc =
     ap (across a (c * b)) e1 ∙ across-at a (c * b) u (v * b + s) lu ∙ sym e3
     ∙ sym (across-at (a * c) b (u * c + v) s (row-lt a c u v lu lv)) ∙ ap (across (a * c) b) e2
 
-transposes-twice : (a c b : ℕ) (x y z : List ℕ) → 0 < a → 0 < c → Transposes a (c * b) x y → Transposes c (b * a) y z → Transposes (a * c) b x z
+pub transposes-twice : (a c b : ℕ) (x y z : List ℕ) → 0 < a → 0 < c → Transposes a (c * b) x y → Transposes c (b * a) y z → Transposes (a * c) b x z
 transposes-twice a c b x y z ha hc f g = record {
   places = λ p h.
       let n : a * c * b ≡ c * (b * a) = ap (λ k. k * b) (mul-comm a c) ∙ mul-assoc c a b ∙ ap (λ k. c * k) (mul-comm a b) in
@@ -145,7 +145,3 @@ transposes-twice a c b x y z ha hc f g = record {
       let k : p < c * (b * a) = omega (arith, h, n) in
       g .places p k ∙ f .places (across c (b * a) p) (omega (arith, across-lt c (b * a) p k, n, n′)) ∙ ap (at x) (across-twice a c b p ha hc);
 }
-
--- a × a rows, by the same step twice
-pub transposes-square : (a b : ℕ) (x y z : List ℕ) → 0 < a → Transposes a (a * b) x y → Transposes a (a * b) y z → Transposes (a * a) b x z
-transposes-square a b x y z h f g = transposes-twice a a b x y z h h f (subst (λ n. Transposes a n y z) (mul-comm a b) g)

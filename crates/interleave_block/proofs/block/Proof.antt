@@ -49,7 +49,7 @@ returns c =
     let k = e .args .k in
     let taken = rows-as _ _ (16 * k) (0 * n + 16 * k) _ _ _ _ _ _ (omega (arith, zero-mul n)) refl (c .before .before .before .before .before .before .before .before .before .before .before .before .copy-rows .ensures) in
     let put = rows-as _ _ _ _ _ _ _ (256 * k) (16 * k * 16 + 0) _ refl (omega arith) (copied-rows _ _ _ _ _ (c .before .before .copy .ensures)) in
-    block-done 16 n (16 * k) 0 _ _ _ _ _ _ (e .pre .1) (omega arith) taken (c .before .before .before .before .before .before .before .shuffle-four-times .ensures .0) put (e .pre .2)
+    block-done 16 n (16 * k) 0 _ _ _ _ _ _ (omega arith) taken (c .before .before .before .before .before .before .before .shuffle-four-times .ensures .0) put (e .pre .2)
 
 pub block-spec : {M : Type 1} → statement M
 block-spec =

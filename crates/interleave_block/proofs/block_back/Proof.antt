@@ -49,7 +49,7 @@ returns c =
     let k = e .args .k in
     let taken = rows-as _ _ (256 * k) (16 * k * 16 + 0) _ _ _ _ _ _ (omega arith) refl (copied-rows _ _ _ _ _ (c .before .before .before .before .before .before .before .before .before .before .before .before .copy .ensures)) in
     let put = rows-as _ _ _ _ _ _ _ (16 * k) (0 * n + 16 * k) _ refl (omega (arith, zero-mul n)) (c .before .before .copy-rows .ensures) in
-    block-done n 16 0 (16 * k) _ _ _ _ _ _ (omega arith) (e .pre .1) taken (c .before .before .before .before .before .before .before .shuffle-four-times .ensures .0) put (e .pre .2)
+    block-done n 16 0 (16 * k) _ _ _ _ _ _ (e .pre .1) taken (c .before .before .before .before .before .before .before .shuffle-four-times .ensures .0) put (e .pre .2)
 
 pub block-back-spec : {M : Type 1} → statement M
 block-back-spec =
