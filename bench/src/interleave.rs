@@ -1,4 +1,5 @@
-//! The words of a group rearranged and put back, in safe Rust, (b): the fastest that we know for SSE2. Up to 16 columns
+//! The words of a group rearranged and put back, in safe Rust, (b), for SSE2; docs/DECISIONS.md says what is faster.
+//! Up to 16 columns
 //! of all words are a block, and zipping the halves of a block over and over turns it about: to[2i] = from[i] and
 //! to[2i + 1] = from[half + i]. The compiler does that with whole registers where every length is a constant and each
 //! shape has a function of its own: one for each length of word and each power of two as the count of words. Any other
