@@ -107,7 +107,8 @@ fn answer_group(q: u32, m: u32, count: u32, source: &[u8], target: &[u8]) -> Res
     yes(all_below(q, source), 8)
 }
 
-/// Rearranges the words of a group, or with `BACK` puts them back, or gives the number of the first question answered no.
+/// Rearranges the words of a group, or with `BACK` puts them back, or gives the number of the first question answered
+/// no.
 pub fn rearrange<const BACK: bool>(
     q: u32,
     m: u32,

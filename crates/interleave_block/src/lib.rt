@@ -1,4 +1,4 @@
-// Groups that are moved through small arrays: their symbols are copied out of the source and shuffled, and so go into the target, all at once
+// Groups that are moved through small arrays: their symbols are copied out of the source, shuffled and copied into the target, all at once
 // where the group is small, and else in blocks of sixteen words by sixteen places. The arrays have a length that the compiler knows, and it
 // keeps what it can of them in registers.
 ghost use mathlib.Core.Path.{_≡_};

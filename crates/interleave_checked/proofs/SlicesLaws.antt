@@ -32,8 +32,8 @@ module _ (q a b size n : ℕ) (x t : List ℕ) (e : size ≡ a * b) (asked : n �
   pub checked-no : n ≢ 0 → Checked q a b x t n t
   checked-no h = record { number = asked ∙ ap (λ k. slicesRefusal q k x t) e; target = sym (after-no n (transposed a b x) t h) }
 
-  pub checked-yes : (y : List ℕ) → n ≡ 0 → y ≡ transposed a b x → Checked q a b x t 0 y
-  checked-yes y z f = record { number = sym z ∙ asked ∙ ap (λ k. slicesRefusal q k x t) e; target = f ∙ sym (after-yes 0 (transposed a b x) t refl) }
+  pub checked-yes : (y : List ℕ) → n ≡ 0 → y ≡ transposed a b x → Checked q a b x t n y
+  checked-yes y z f = record { number = asked ∙ ap (λ k. slicesRefusal q k x t) e; target = f ∙ sym (after-yes n (transposed a b x) t z) }
 
 -- a source that is lent as the part from place 0 on is the whole source
 pub checked-part : (q a b k : ℕ) (x t y : List ℕ) → Checked q a b (take (length x - 0) x) t k y → Checked q a b x t k y

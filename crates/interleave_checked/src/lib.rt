@@ -1,23 +1,36 @@
 // Groups of words whose slices are asked about first: questions 7, 7 and 8 (docs/REQUIREMENTS.md), and then the rows of the source are
-// transposed into the target. Where the number of symbols is written out, both together are a few instructions.
+// transposed into the target. Where the number of symbols is written out, the compiler makes straight code of both together.
 ghost use mathlib.Core.Path.{_≡_};
 ghost use mathlib.Core.Bool.{true};
-ghost use Prim.Native.Nat.{_*_, _/_, _%_, _^_, _≤_};
+ghost use Prim.Native.Nat.{_+_, _*_, _/_, _%_, _^_, _≤_};
 ghost use lib.ListN.{length};
 ghost use Rattle.code_theory.specs.Question.{isAlphabet, allBelow};
 ghost use Rattle.code_questions.specs.Internal.{Tells};
 ghost use Rattle.interleave_theory.specs.Internal.{slicesRefusal, Checked};
 
-// Whether the first 8 * n symbols are below q: eight of them in one number, and all these numbers put together bit by bit.
-fn eights_below(q: u32, n: usize, s: &[u8]) -> bool
-    requires { ⌜ (isAlphabet q ≡ true) × (8 * n ≤ length (now s)) ⌝ }
-    ensures { λ r. ⌜ Tells r q (8 * n) (now (s .entry)) 0 ⌝ }
+// Whether the 8 * n symbols from place i on are below q: eight of them in one number, and all these numbers put together bit by bit.
+fn eights_below(q: u32, n: usize, i: usize, s: &[u8]) -> bool
+    requires { ⌜ (isAlphabet q ≡ true) × (i + 8 * n ≤ length (now s)) ⌝ }
+    ensures { λ r. ⌜ Tells r q (8 * n) (now (s .entry)) i ⌝ }
 {
     let mut all: u64 = 0;
     for j in 0..n {
-        all = all | swar_bytes::eight(s, 8 * j);
+        all = all | swar_bytes::eight(s, i + 8 * j);
     }
     all & swar_bytes::mask(q) == all
+}
+
+// Whether the first 512 * n symbols are below q, in parts of 512: the compiler knows how long a part is.
+fn parts_below(q: u32, n: usize, s: &[u8]) -> bool
+    requires { ⌜ (isAlphabet q ≡ true) × (512 * n ≤ length (now s)) ⌝ }
+    ensures { λ r. ⌜ Tells r q (512 * n) (now (s .entry)) 0 ⌝ }
+{
+    for k in 0..n {
+        if !eights_below(q, 64, 512 * k, s) {
+            return false;
+        }
+    }
+    true
 }
 
 // Question 8 about a source of so many symbols. The size is handed over, so that the compiler knows it where it is written out.
@@ -25,8 +38,11 @@ fn group_below(q: u32, size: usize, s: &[u8]) -> bool
     requires { ⌜ (isAlphabet q ≡ true) × (length (now s) ≡ size) ⌝ }
     ensures { λ r. ⌜ r ≡ allBelow q (now (s .entry)) ⌝ }
 {
+    if size % 512 == 0 {
+        return parts_below(q, size / 512, s);
+    }
     if size % 8 == 0 {
-        return eights_below(q, size / 8, s);
+        return eights_below(q, size / 8, 0, s);
     }
     code_questions::all_below(q, s)
 }
@@ -58,7 +74,7 @@ pub fn small(q: u32, half: usize, times: u32, source: &[u8], target: &mut [u8]) 
         return number;
     }
     interleave_block::shuffle_times(half, times, source, target);
-    0
+    number
 }
 
 // Sixteen rows of sixteen symbols. Question 8 is asked by the largest symbol: the compiler then puts all of this into the call.
@@ -89,7 +105,7 @@ fn rows(q: u32, a: usize, b: usize, source: &[u8], target: &mut [u8]) -> u32
         return refused;
     }
     interleave_by_size::transpose(a, b, source, target);
-    0
+    refused
 }
 
 // The same, with the source lent as a part: the compiler then hands it over in registers.

@@ -5,7 +5,7 @@ ghost use Prim.Native.Nat.{_*_, _≤_};
 ghost use lib.ListN.{length};
 ghost use Rattle.interleave_theory.specs.Internal.{Transposes};
 
-// The symbols of the two halves of `from` in turn. Places of `to` after these keep no promise.
+// The symbols of the two halves of `from` in turn. Nothing is promised of the places of `to` behind these.
 pub fn shuffle(half: usize, from: &[u8], to: &mut [u8])
     requires { ⌜ (2 * half ≤ length (now from)) × (2 * half ≤ length (now to)) ⌝ }
     ensures places { λ r. ⌜ Transposes 2 half (now (from .entry)) (now (to .exit)) ⌝ }

@@ -16,7 +16,7 @@ use Rattle.interleave_theory.specs.Place.{rearranged, putBack}
 use Rattle.interleave_theory.specs.Group.{isGroup, isGroupSize, groupRefusal, groupAnswer, rearrangeTarget, putBackTarget}
 use Rattle.interleave_theory.specs.Internal.{slicesRefusal, Checked}
 use Rattle.interleave_theory.proofs.RefusalLaws.{slices-asked, refused-none}
-use Rattle.interleave_theory.proofs.PlaceLaws.{transposed-length, transposed-below, undone}
+use Rattle.interleave_theory.proofs.PlaceLaws.{transposed-length, transposed-below, rearranged-undone, put-back-undone}
 
 group-bounds : (count : ℕ) → isGroup count ≡ true → (1 ≤ count) × (count ≤ 16)
 unfolding isGroup
@@ -137,7 +137,7 @@ put-back-undoes q m count x t u h n =
       below = transposed-below q count (2 ^ m) x (g .source) (g .below);
     }) in (
       ap (λ l. groupRefusal q m count l u) e ∙ z,
-      ap (λ l. putBackTarget q m count l u) e ∙ put-back-is q m count y u z ∙ undone count (2 ^ m) x (g .source),
+      ap (λ l. putBackTarget q m count l u) e ∙ put-back-is q m count y u z ∙ rearranged-undone count (2 ^ m) x (g .source),
     )
 
 -- AND REARRANGE UNDOES PUT BACK
@@ -157,5 +157,5 @@ rearrange-undoes q m count y t u h n =
       below = transposed-below q (2 ^ m) count y (g .source ∙ c) (g .below);
     }) in (
       ap (λ l. groupRefusal q m count l u) e ∙ z,
-      ap (λ l. rearrangeTarget q m count l u) e ∙ rearrange-is q m count x u z ∙ undone (2 ^ m) count y (g .source ∙ c),
+      ap (λ l. rearrangeTarget q m count l u) e ∙ rearrange-is q m count x u z ∙ put-back-undone count (2 ^ m) y (g .source),
     )

@@ -95,6 +95,13 @@ undone a b x h =
     let j : across b a i < a * b = subst (λ n. across b a i < n) (mul-comm b a) (across-lt b a i k) in
     transposed-at b a (transposed a b x) i k ∙ transposed-at a b x (across b a i) j ∙ ap (at x) (across-back b a i k))
 
+-- so it is with a group of W words of n symbols: putting back undoes rearranging, and rearranging undoes putting back
+pub rearranged-undone : (count n : ℕ) (x : List ℕ) → length x ≡ count * n → putBack count n (rearranged count n x) ≡ x
+rearranged-undone count n x h = undone count n x h
+
+pub put-back-undone : (count n : ℕ) (y : List ℕ) → length y ≡ count * n → rearranged count n (putBack count n y) ≡ y
+put-back-undone count n y h = undone n count y (h ∙ mul-comm count n)
+
 -- the symbols stay the same ones, so those of an alphabet stay in it
 pub transposed-below : (q a b : ℕ) (x : List ℕ) → length x ≡ a * b → allBelow q x ≡ true → allBelow q (transposed a b x) ≡ true
 transposed-below q a b x n h = below-all q (transposed a b x) (λ i l.
@@ -114,7 +121,7 @@ filled-next a b k p i x y e f l h = record { places = λ j m. go j (last-or-befo
         ap (λ n. at (set y p (at x i)) n) (z ∙ sym e) ∙ getD-set-same y p (at x i) 0 (omega (arith, l, e)) ∙ ap (at x) (f ∙ ap (across a b) (sym z))
     go j (inr z) = getD-set-other y p j (at x i) 0 (λ n. omega (arith, z, n, e)) ∙ h .places j z
 
--- so far, and said of a smaller number
+-- what is filled up to k is filled up to any smaller number
 pub filled-less : (a b k n : ℕ) (x y : List ℕ) → n ≤ k → Filled a b k x y → Filled a b n x y
 filled-less a b k n x y l h = record { places = λ p m. h .places p (omega (arith, l, m)) }
 

@@ -26,7 +26,7 @@ use Rattle.session_sender.proofs.SoundLaws.{sender-opens}
 use Rattle.session_receiver.specs.Receiving.{newReceiver, isBelow, isMissing, soundReceiver, receiveRefusal, missRefusal, receiveConstant, zoneFrom, zoneSymbol, receiveDelivery, zoneValues, deliveryValues, receiveAnswer, receiveMessage, nextReceiver, afterReceive, receiveSession, missAnswer, missSession}
 use Rattle.session_history_theory.specs.Calls.{slotsOf, ifAccepted, Send, SenderSlot, senderCall, senderSlot, senderSlots, ReceiverCall, receive, miss, ReceiverSlot, read, missed, ifReceived, receiverCall, receiverSlot, receiverSlots}
 use Rattle.session_history_theory.specs.Whole.{receivedWord}
-use Rattle.session_group_theory.specs.Grouped.{groupAt, Passage, sent, returned, returnedWord, WholeGroup, BurstPassage, GroupedSlot}
+use Rattle.session_group_theory.specs.Grouped.{groupAt, Passage, groupSent, groupReturned, returnedWord, WholeGroup, BurstPassage, GroupedSlot}
 use Rattle.session_group_theory.proofs.Theorem.{burst-slots}
 
 -- after each of the first three sends one is refused: a short message, a symbol that is not below q, a short word slice
@@ -116,9 +116,9 @@ whole-1 = record {
 abbrev pub group : List ℕ
 group = 1 ∷ 0 ∷ 0 ∷ 0 ∷ 1 ∷ 1 ∷ 0 ∷ 1 ∷ 1 ∷ 1 ∷ 0 ∷ 1 ∷ 1 ∷ 0 ∷ 0 ∷ 0 ∷ []
 
-sent-group : sent 2 3 2 (groupAt 2 strap 0) (passages 0) ≡ group
-unfolding passages sent rearrangeTarget after groupAt joined groupRefusal ask isAlphabet isVariables isGroup isGroupSize allBelow transposed across tabulate
-sent-group = ap (λ l. sent 2 3 2 (groupAt 2 l 0) (passages 0)) sent-slots
+sent-group : groupSent 2 3 2 (groupAt 2 strap 0) (passages 0) ≡ group
+unfolding passages groupSent rearrangeTarget after groupAt joined groupRefusal ask isAlphabet isVariables isGroup isGroupSize allBelow transposed across tabulate
+sent-group = ap (λ l. groupSent 2 3 2 (groupAt 2 l 0) (passages 0)) sent-slots
 
 pub burst : BurstPassage 2 3 1 2 3 2 strap (passages 0) 0
 unfolding passages every turn
@@ -134,7 +134,7 @@ burst = record {
 returned-words : (returnedWord 2 3 2 (passages 0) 0 ≡ 0 ∷ 1 ∷ 1 ∷ 1 ∷ 0 ∷ 1 ∷ 0 ∷ 1 ∷ [])
     × (returnedWord 2 3 2 (passages 0) 1 ≡ 1 ∷ 0 ∷ 0 ∷ 0 ∷ 0 ∷ 0 ∷ 1 ∷ 1 ∷ [])
     × (returnedWord 2 3 2 (passages 1) 1 ≡ 0 ∷ 1 ∷ 1 ∷ 0 ∷ 1 ∷ 0 ∷ 0 ∷ 0 ∷ [])
-unfolding passages returnedWord returned wordOf putBackTarget after groupRefusal ask isAlphabet isVariables isGroup isGroupSize allBelow transposed across tabulate
+unfolding passages returnedWord groupReturned wordOf putBackTarget after groupRefusal ask isAlphabet isVariables isGroup isGroupSize allBelow transposed across tabulate
 returned-words = (refl, refl, refl)
 
 -- the words of group 0, by the theorem about one run

@@ -16,7 +16,7 @@ use Rattle.code_theory.specs.Question.{isAlphabet, isVariables}
 use Rattle.code_theory.proofs.SumLaws.{sum-ext}
 use Rattle.code_theory.proofs.QuestionLaws.{alphabet-positive}
 use Rattle.interleave_theory.specs.Group.{isGroup, groupRefusal}
-use Rattle.interleave_theory.proofs.GroupLaws.{rearrange-is, put-back-is}
+use Rattle.interleave_theory.proofs.GroupLaws.{not-refused, rearrange-is, put-back-is}
 use Rattle.interleave_burst_theory.specs.Burst.{wordOf, alteredIn}
 use Rattle.interleave_burst_theory.proofs.RunLaws.{run-light}
 use Rattle.interleave_burst_theory.proofs.JoinLaws.{Words, codeword-symbols, rearranged-at, joined-accepted, put-back-at}
@@ -28,7 +28,7 @@ use Rattle.session_receiver.specs.Receiving.{openReceiver}
 use Rattle.session_history_theory.specs.Calls.{Send, SenderSlot, senderSlots, senderAfter, ReceiverCall, ReceiverSlot, receiverSlots, receiverAfter}
 use Rattle.session_history_theory.specs.Whole.{receivedWord}
 use Rattle.session_history_theory.proofs.Theorem.{strap-word, whole-sessions}
-use Rattle.session_group_theory.specs.Grouped.{groupAt, Passage, sent, returned, returnedWord, WholeGroup, BurstPassage, GroupedSlot, GroupedSessions}
+use Rattle.session_group_theory.specs.Grouped.{groupAt, Passage, groupSent, groupReturned, returnedWord, WholeGroup, BurstPassage, GroupedSlot, GroupedSessions}
 
 drop-at : {A : Type 0} (k : ℕ) (xs : List A) (i : ℕ) → getElem? (drop k xs) i ≡ getElem? xs (k + i)
 drop-at zero xs i = ap (getElem? xs) (sym (zero-add i))
@@ -70,20 +70,20 @@ module _ (q m count : ℕ) (strap : List SenderSlot) (slots : Slots q (2 ^ m) st
 
   module _ (t w : ℕ) (x : SenderSlot) (passage : Passage) (whole : WholeGroup q m count strap passage g) (h : w < count) (e : getElem? strap (count * g + w) ≡ some x) where
     -- symbol s of the word, as it is sent and as it is put back
-    sent-at : (s : ℕ) → s < 2 ^ m → at (x .word) s ≡ at (sent q m count (groupAt count strap g) passage) (s * count + w)
-    unfolding sent groupAt
+    sent-at : (s : ℕ) → s < 2 ^ m → at (x .word) s ≡ at (groupSent q m count (groupAt count strap g) passage) (s * count + w)
+    unfolding groupSent groupAt
     sent-at s l =
         sym (ap (λ y. at y (s * count + w)) (rearrange-is q m count _ (passage .outgoing) (whole .rearranges))
         ∙ rearranged-at q (2 ^ m) count _ words w (x .word) h (first-at count _ w x h (drop-at (count * g) strap w ∙ e)) s l)
 
     returned-at : (s : ℕ) → s < 2 ^ m → at (returnedWord q m count passage w) s ≡ at (passage .arrived) (s * count + w)
-    unfolding returnedWord returned
+    unfolding returnedWord groupReturned
     returned-at s l =
         ap (λ y. at (wordOf (2 ^ m) y w) s) (put-back-is q m count (passage .arrived) (passage .incoming) (whole .putsBack))
         ∙ put-back-at (2 ^ m) count (passage .arrived) w h s l
 
     counted : altered q m t (at (x .word)) (at (returnedWord q m count passage w))
-        ≡ alteredIn (2 ^ m) count w (turn q t (at (sent q m count (groupAt count strap g) passage))) (at (passage .arrived))
+        ≡ alteredIn (2 ^ m) count w (turn q t (at (groupSent q m count (groupAt count strap g) passage))) (at (passage .arrived))
     unfolding altered turn alteredIn
     counted = sum-ext (2 ^ m) _ _ (λ s l. ap₂ differ (ap (λ a. (a + t) % q) (sent-at s l)) (returned-at s l))
 
@@ -107,6 +107,14 @@ grouped-sessions q m sender receiver a b t l count group sends calls passages =
       light = λ g w x slot. record { sent = slot .slot; received = slot .received; light = slot .light };
       counted = λ g w x whole. counted q m count _ slots g t w x (passages g) whole;
       rearranges = λ g whole. whole-accepted q m count _ slots g alphabet variables group (passages g .outgoing) whole;
+      putsBack = λ g length below room. not-refused q m count _ _ (record {
+        alphabet = alphabet;
+        variables = variables;
+        group = group;
+        source = length;
+        target = room;
+        below = below;
+      });
     }
 
 -- ONE RUN, WHOLE SESSIONS: each word of a group that only such a run altered is a slot of which Whole sessions speaks

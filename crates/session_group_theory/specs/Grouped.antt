@@ -2,11 +2,13 @@
 -- strap travel in whole groups of W: word w of group g is that of slot W × g + w.
 use Prim.Native.Nat.{ℕ, _+_, _*_, _-_, _/_, _^_, _≤_, _<_}
 use mathlib.Core.Path.{_≡_}
+use mathlib.Core.Bool.{true}
 use mathlib.Core.List.{List, map}
 use mathlib.Core.Option.{some}
 use lib.ListN.{length, getElem?, take, drop}
 use Rattle.code_theory.specs.Sum.{at}
 use Rattle.code_theory.specs.Turn.{turn, altered}
+use Rattle.code_theory.specs.Question.{allBelow}
 use Rattle.interleave_theory.specs.Group.{groupRefusal, rearrangeTarget, putBackTarget}
 use Rattle.interleave_burst_theory.specs.Burst.{joined, wordOf, OneRun, alteredIn}
 use Rattle.session_sender.specs.declared.Sender.{Sender}
@@ -25,14 +27,14 @@ pub record Passage : Type 0 where
   pub incoming : List ℕ
 
 -- what the strap sends of a group, what the launch has of it, and word w of that
-unfoldable pub sent : ℕ → ℕ → ℕ → List ℕ → Passage → List ℕ
-sent q m count group passage = rearrangeTarget q m count group (passage .outgoing)
+unfoldable pub groupSent : ℕ → ℕ → ℕ → List ℕ → Passage → List ℕ
+groupSent q m count group passage = rearrangeTarget q m count group (passage .outgoing)
 
-unfoldable pub returned : ℕ → ℕ → ℕ → Passage → List ℕ
-returned q m count passage = putBackTarget q m count (passage .arrived) (passage .incoming)
+unfoldable pub groupReturned : ℕ → ℕ → ℕ → Passage → List ℕ
+groupReturned q m count passage = putBackTarget q m count (passage .arrived) (passage .incoming)
 
 unfoldable pub returnedWord : ℕ → ℕ → ℕ → Passage → ℕ → List ℕ
-returnedWord q m count passage w = wordOf (2 ^ m) (returned q m count passage) w
+returnedWord q m count passage w = wordOf (2 ^ m) (groupReturned q m count passage) w
 
 -- Group g is whole: the strap has all its slots, and both calls about it are accepted.
 pub record WholeGroup (q m count : ℕ) (strap : List SenderSlot) (passage : Passage) (g : ℕ) : Type 0 where
@@ -44,7 +46,7 @@ pub record WholeGroup (q m count : ℕ) (strap : List SenderSlot) (passage : Pas
 pub record BurstPassage (q m t count start len : ℕ) (strap : List SenderSlot) (passage : Passage) (g : ℕ) : Type 0 where
   pub whole : WholeGroup q m count strap passage g
   pub short : len ≤ count * (2 ^ m / 4 - 1)
-  pub run : OneRun (count * 2 ^ m) start len (turn q t (at (sent q m count (groupAt count strap g) passage))) (at (passage .arrived))
+  pub run : OneRun (count * 2 ^ m) start len (turn q t (at (groupSent q m count (groupAt count strap g) passage))) (at (passage .arrived))
 
 -- Word w of the whole group g was sent as the slot x, and its slot of the launch received that word of the group put back, in which fewer
 -- than a quarter of the symbols are altered.
@@ -66,7 +68,10 @@ pub record GroupedSessions (q m t count : ℕ) (strap : List SenderSlot) (launch
   -- plus t modulo q.
   pub counted : (g w : ℕ) (x : SenderSlot) → WholeGroup q m count strap (passages g) g → w < count → getElem? strap (count * g + w) ≡ some x
       → altered q m t (at (x .word)) (at (returnedWord q m count (passages g) w))
-      ≡ alteredIn (2 ^ m) count w (turn q t (at (sent q m count (groupAt count strap g) (passages g)))) (at (passages g .arrived))
-  -- Rearrange refuses no whole group of sent words for which the target slice has its length.
+      ≡ alteredIn (2 ^ m) count w (turn q t (at (groupSent q m count (groupAt count strap g) (passages g)))) (at (passages g .arrived))
+  -- Rearrange refuses no group of which the strap has all W slots, where the target slice has its length;
   pub rearranges : (g : ℕ) → count * g + count ≤ length strap → length (passages g .outgoing) ≡ count * 2 ^ m
       → groupRefusal q m count (groupAt count strap g) (passages g .outgoing) ≡ 0
+  -- and Put back refuses no W × n symbols below q that arrive, where the target slice has their length.
+  pub putsBack : (g : ℕ) → length (passages g .arrived) ≡ count * 2 ^ m → allBelow q (passages g .arrived) ≡ true → length (passages g .incoming) ≡ count * 2 ^ m
+      → groupRefusal q m count (passages g .arrived) (passages g .incoming) ≡ 0

@@ -28,21 +28,27 @@ pub struct Passage {
 
 impl Passage {
     /// A run of at most the longest, which is often taken.
-    pub fn any(random: &mut Random, code: (u32, u32), count: u32, turn: u8) -> Passage {
+    pub fn within(random: &mut Random, code: (u32, u32), count: u32, turn: u8) -> Passage {
         let longest = longest(code.1, count);
         let length = if random.one_in(2) { longest } else { random.below(longest + 1) };
-        Passage { turn, ..Passage::of_length(random, code, count, length) }
+        Passage::of_length(random, code, count, turn, length)
     }
 
-    /// A run of this length at the start of the group, at its end or anywhere, and no turn.
-    fn of_length(random: &mut Random, code: (u32, u32), count: u32, length: usize) -> Passage {
+    /// A run longer by one symbol than the longest: one word has a quarter of its places altered, the others fewer.
+    pub fn beyond(random: &mut Random, code: (u32, u32), count: u32, turn: u8) -> Passage {
+        let length = longest(code.1, count) + 1;
+        Passage::of_length(random, code, count, turn, length)
+    }
+
+    /// A run of this length at the start of the group, at its end or anywhere.
+    fn of_length(random: &mut Random, code: (u32, u32), count: u32, turn: u8, length: usize) -> Passage {
         let last = places(code.1, count) - length;
         let start = match random.below(4) {
             0 => 0,
             1 => last,
             _ => random.below(last + 1),
         };
-        Passage { code, count, turn: 0, run: start..start + length }
+        Passage { code, count, turn, run: start..start + length }
     }
 
     /// The words as they arrive: rearranged, turned, altered and put back.
@@ -150,9 +156,9 @@ impl Bursts {
     pub fn random(&mut self, interleave: &mut Interleave, report: &mut Report, random: &mut Random, rounds: u32) {
         for (code, count) in interleave::groups() {
             for _ in 0..rounds {
-                let passage = Passage::any(random, code, count, 0);
+                let passage = Passage::within(random, code, count, 0);
                 self.within(interleave, report, random, &passage);
-                let passage = Passage::of_length(random, code, count, longest(code.1, count) + 1);
+                let passage = Passage::beyond(random, code, count, 0);
                 self.beyond(interleave, report, random, &passage);
             }
         }

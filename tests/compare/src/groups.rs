@@ -1,6 +1,7 @@
 //! Whole sessions in groups: the strap's words are rearranged group by group, turned by one number, altered in one run
-//! of adjacent symbols that leaves each word fewer than a quarter altered, and put back before the launch receives
-//! them. What "Whole sessions" says of each slot is checked as for words that travel one by one.
+//! of adjacent symbols, and put back before the launch receives them. The run leaves each word fewer than a quarter
+//! altered or, at times, is longer by one symbol, so that one word of the group is doubtful. What "Whole sessions" says
+//! of each slot is checked as for words that travel one by one.
 
 use common::questions::CODES;
 use common::random::Random;
@@ -14,8 +15,9 @@ use crate::whole::{Lists, Slot};
 /// The slots of the launch by what became of them, and those whose zone the claim speaks of.
 pub struct Groups {
     light: Counts,
-    missed: Counts,
+    unread: Counts,
     with_zone_sent: Counts,
+    after_unread: Counts,
 }
 
 impl Groups {
@@ -23,8 +25,9 @@ impl Groups {
         let counts = |name| Counts::new(name, &[], &CODES);
         Groups {
             light: counts("slots read from groups"),
-            missed: counts("slots missed of groups"),
+            unread: counts("slots missed or doubtful of groups"),
             with_zone_sent: counts("slots read from groups with the zone sent"),
+            after_unread: counts("slots read from groups after one missed or doubtful"),
         }
     }
 
@@ -42,7 +45,8 @@ impl Groups {
             for _ in 0..groups {
                 let straps = send(&mut lists, sessions, report, random, count);
                 let words: Vec<Vec<u8>> = straps.iter().map(|strap| strap.word.clone()).collect();
-                let passage = Passage::any(random, code, count, lists.turn);
+                let run = if random.one_in(4) { Passage::beyond } else { Passage::within };
+                let passage = run(random, code, count, lists.turn);
                 let words = passage.carry(interleave, report, random, &words);
                 for (strap, word) in straps.into_iter().zip(words) {
                     lists.strap = strap;
@@ -54,22 +58,24 @@ impl Groups {
         }
     }
 
-    /// Every slot that is not missed has fewer than a quarter of its symbols altered; a doubtful one of these is a
-    /// mismatch of its own.
+    /// No word of a group has more than a quarter of its symbols altered. So it is read as it was sent or not at all:
+    /// one that is read in spite of heavier damage is a mismatch.
     fn count(&mut self, report: &mut Report, code: (u32, u32), before: Option<Slot>, slot: Slot) {
         match slot {
             Slot::Light => self.light.add(code, 0),
-            Slot::Unread => self.missed.add(code, 0),
+            Slot::Unread => self.unread.add(code, 0),
             Slot::Heavy => report.require(false, || format!("{slot:?} slot of a group, (q, m) = {code:?}")),
         }
-        if (before, slot) == (Some(Slot::Light), Slot::Light) {
-            self.with_zone_sent.add(code, 0);
+        match before {
+            Some(Slot::Light) if slot == Slot::Light => self.with_zone_sent.add(code, 0),
+            Some(Slot::Unread) if slot == Slot::Light => self.after_unread.add(code, 0),
+            _ => {}
         }
     }
 
     /// Prints the counts; a kind of slot never seen is a failure.
     pub fn finish(&self, report: &mut Report) {
-        for counts in [&self.light, &self.missed, &self.with_zone_sent] {
+        for counts in [&self.light, &self.unread, &self.with_zone_sent, &self.after_unread] {
             counts.print();
             counts.require_all(report);
         }

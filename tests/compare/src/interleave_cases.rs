@@ -1,5 +1,5 @@
-//! Cases for rearranging a group and putting it back: groups whose places can be told apart, counts of words that no
-//! group has, faults in every combination, and random cases.
+//! Cases for rearranging a group and putting it back: every small group, groups whose places can be told apart, counts
+//! of words that no group has, faults at every place and in every combination, and random cases.
 
 use common::random::{alter, Random};
 
@@ -25,6 +25,9 @@ const BAD_M: [u32; 3] = [0, 1, 9];
 const LAST_Q: u32 = 17;
 const LAST_M: u32 = 10;
 const LAST_COUNT: u32 = 20;
+
+/// Of groups of up to so many words of the smallest code every source is tried.
+const LISTED_WORDS: u32 = 3;
 
 /// A group with at most so many places has a case for each of them.
 pub const FEW_PLACES: usize = 256;
@@ -55,6 +58,27 @@ pub fn places_told_apart(random: &mut Random, (q, m): (u32, u32), count: u32, mu
         let mut source = vec![random.below(q as usize) as u8; places];
         alter(q, &mut source[place], random.error(q));
         each(&sound(random, (q, m), count, source));
+    }
+}
+
+/// Groups with one symbol that is not below q, at each place where there are few of them.
+pub fn outside_at_each_place(random: &mut Random, (q, m): (u32, u32), count: u32, mut each: impl FnMut(&Case)) {
+    let places = (count as usize) << m;
+    for place in (0..places).filter(|_| places <= FEW_PLACES) {
+        let mut source = random.symbols(q, places);
+        source[place] = random.pick(&[q as u8, u8::MAX]);
+        each(&sound(random, (q, m), count, source));
+    }
+}
+
+/// Every source of up to so many words of the smallest code.
+pub fn every_source(random: &mut Random, mut each: impl FnMut(&Case)) {
+    let (q, m) = (2, 2);
+    for count in 1..=LISTED_WORDS {
+        let places = (count as usize) << m;
+        for number in 0..1 << places {
+            each(&sound(random, (q, m), count, model::symbols_of(q, places, number)));
+        }
     }
 }
 

@@ -8,16 +8,19 @@ use Rattle.interleave_checked.proofs.eights_below.Statement.{statement}
 use Rattle.interleave_checked.proofs.eights_below.Tie as tie
 
 abbrev Inv-loop : tie.InvT-loop
-Inv-loop q n s all₀ j₀ all j = (j ≤ n) × Gathered s j all
+Inv-loop q n i s all₀ j₀ all j = (j ≤ n) × Gathered s i j all
 
 abbrev μ-loop : tie.MeasureT-loop
-μ-loop q n s all₀ j₀ all j = n - j
+μ-loop q n i s all₀ j₀ all j = n - j
 
 loop-holds : tie.Need-loop-holds Inv-loop μ-loop
-loop-holds c = (omega arith, gathered-none _)
+loop-holds c = (omega arith, gathered-none _ _)
 
 mul-eight : tie.Need-mul-eight Inv-loop μ-loop
 mul-eight c = search needs
+
+add-eight : tie.Need-add-eight Inv-loop μ-loop
+add-eight c = search needs
 
 eight-requires : tie.Need-eight-requires Inv-loop μ-loop
 eight-requires c κs = search needs
@@ -31,7 +34,7 @@ loop-less c = search needs
 loop-again : tie.Need-loop-again Inv-loop μ-loop
 loop-again c =
     let l = c .before .before in
-    (omega arith, gathered-next _ (l .loop .j) (l .loop .all) (c .eight .result) _ (l .loop .inv .1) (omega arith) (c .eight .ensures) refl)
+    (omega arith, gathered-next _ _ (l .loop .j) (l .loop .all) (c .eight .result) _ (l .loop .inv .1) (omega arith) (c .eight .ensures) refl)
 
 mask-requires : tie.Need-mask-requires Inv-loop μ-loop
 mask-requires c κs = search needs
@@ -40,7 +43,7 @@ returns : tie.Need-returns Inv-loop μ-loop
 returns c =
     let l = c .before .before in
     let s = l .before .before in
-    eights-tell (s .args .q) (s .args .n) (l .loop .j) (l .loop .all) (c .mask .result) (s .args .s .now) (s .pre .0) (omega arith) (l .loop .inv .1) (c .mask .ensures)
+    eights-tell (s .args .q) (s .args .n) (s .args .i) (l .loop .j) (l .loop .all) (c .mask .result) (s .args .s .now) (s .pre .0) (omega arith) (l .loop .inv .1) (c .mask .ensures)
 
 pub eights-below-spec : {M : Type 1} → statement M
 eights-below-spec =
@@ -50,6 +53,7 @@ eights-below-spec =
     μ-loop
     loop-holds
     mul-eight
+    add-eight
     eight-requires
     add-j
     loop-less
