@@ -1,8 +1,8 @@
-//! The words of a group rearranged and put back, in safe Rust, (b), for SSE2: the fastest that we know. Up to 16 columns
-//! of all words are a block, and zipping the halves of a block over and over turns it about: to[2i] = from[i] and
-//! to[2i + 1] = from[half + i]. The compiler does that with whole registers where every length is a constant and each
-//! shape has a function of its own: one for each length of word and each count of words. A count that is no power of
-//! two is filled up to the next one.
+//! The words of a group rearranged and put back, in safe Rust, (b), for SSE2: the fastest that we know. Up to 16
+//! columns of all words are a block, and zipping the halves of a block over and over turns it about: to[2i] = from[i]
+//! and to[2i + 1] = from[half + i]. The compiler does that with whole registers where every length is a constant and
+//! each shape has a function of its own: one for each length of word and each count of words. A count that is no power
+//! of two is filled up to the next one.
 
 use common::questions::is_alphabet;
 
@@ -30,7 +30,8 @@ fn zip(half: usize, row: &mut [u8; ROOM]) {
 }
 
 /// The columns of a block one after the other, or with `BACK` the rows of one whose columns stand so. Zipping turns the
-/// bits of every place round by one: as many times as P has bits, or, the other way, as C has.
+/// bits of every place round by one: as many times as the number of a row has bits or, the other way, that of a
+/// column.
 #[inline(always)]
 fn turn<const BACK: bool, const C: usize, const P: usize>(from: &Block<C, P>, to: &mut Block<C, P>) {
     let mut row = [0; ROOM];
@@ -95,8 +96,8 @@ fn back<const N: usize, const C: usize, const W: usize, const P: usize>(source: 
     }
 }
 
-/// Asks the questions 7, 7 and 8, and rearranges, or puts back: W words of N symbols, where P is the power of two from W
-/// on. The answer is the number itself, so that nothing is left to do after it.
+/// Asks the questions 7, 7 and 8, and rearranges, or puts back: W words of N symbols, where P is the least power of two
+/// from W on. The answer is the number itself, so that nothing is left to do after it.
 #[inline(never)]
 fn group<const BACK: bool, const N: usize, const C: usize, const W: usize, const P: usize>(
     q: u32,

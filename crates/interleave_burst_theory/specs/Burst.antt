@@ -38,7 +38,8 @@ wordsOf q m messages = joined (map (codeword q m) messages)
 unfoldable pub sentGroup : ℕ → ℕ → ℕ → List (List ℕ) → List ℕ
 sentGroup q m count messages = rearranged count (2 ^ m) (wordsOf q m messages)
 
--- W messages, and one run of at most W × (n/4 − 1) adjacent symbols of their rearranged group that is altered in any manner, and nothing else
+-- W messages, and one run of at most W × (n/4 − 1) adjacent symbols of their rearranged group that is altered in any manner, and nothing
+-- else
 pub record Burst (q m count start len : ℕ) (messages : List (List ℕ)) (arrived : List ℕ) : Type 0 where
   pub size : length messages ≡ count
   pub symbols : (w : ℕ) (message : List ℕ) → getElem? messages w ≡ some message → Symbols q (suc m) message

@@ -100,7 +100,7 @@ module _ (q n i m all y : ℕ) (s : List ℕ) (a : isAlphabet q ≡ true) (end :
         bytes-tell .all (λ l h. omega (arith, byte l h, below-alphabet q s i m all g symbols (alphabet q a) l h));
   }
 
--- parts of 512 symbols, asked about one after the other: none yet, one more whose symbols are all below q, and one that has another symbol
+-- parts of 512 symbols, asked about one after the other: none yet; one more, all below q; and one with a symbol that is not
 pub parts-none : (q : ℕ) (s : List ℕ) → Tells true q (512 * 0) s 0
 parts-none q s = record { yes = λ e l h. absurd (omega (arith, h)); all = λ f. refl }
 
@@ -115,6 +115,6 @@ parts-no q n k s r h e part = record {
   all = λ f. sym e ∙ part .all (λ l j. subst (λ i. at s i < q) (zero-add (512 * k + l)) (f (512 * k + l) (omega (arith, h, j))));
 }
 
--- all parts
+-- all parts asked about
 pub parts-all : (q n k : ℕ) (s : List ℕ) → k ≡ n → Tells true q (512 * k) s 0 → Tells true q (512 * n) s 0
 parts-all q n k s e t = subst (λ i. Tells true q (512 * i) s 0) e t

@@ -3,8 +3,8 @@ use Prim.Native.Nat.{ℕ, _+_, _*_, _/_, _%_}
 use mathlib.Core.List.{List}
 use Rattle.code_theory.specs.Sum.{tabulate, at}
 
--- THE PLACE. A symbol at place w × b + s of a rows of b symbols is at place s × a + w of b rows of a symbols. Where p is the second of these
--- places, this is the first.
+-- THE PLACE. A symbol at place w × b + s of a rows of b symbols is at place s × a + w of b rows of a symbols. Where p is the second of
+-- these places, this is the first.
 unfoldable pub across : ℕ → ℕ → ℕ → ℕ
 across a b p = (p % a) * b + p / a
 

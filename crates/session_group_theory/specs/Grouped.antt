@@ -20,7 +20,8 @@ use Rattle.session_history_theory.specs.Whole.{receivedWord, LightSlot, WholeSe
 unfoldable pub groupAt : ℕ → List SenderSlot → ℕ → List ℕ
 groupAt count strap g = joined (map (λ slot. slot .word) (take count (drop (count * g) strap)))
 
--- a group on its way: the target slice that the strap lends to Rearrange, what arrives, and the target slice that the launch lends to Put back
+-- a group on its way: the target slice that the strap lends to Rearrange, what arrives, and the target slice that the launch lends to Put
+-- back
 pub record Passage : Type 0 where
   pub outgoing : List ℕ
   pub arrived : List ℕ
@@ -42,7 +43,8 @@ pub record WholeGroup (q m count : ℕ) (strap : List SenderSlot) (passage : Pas
   pub rearranges : groupRefusal q m count (groupAt count strap g) (passage .outgoing) ≡ 0
   pub putsBack : groupRefusal q m count (passage .arrived) (passage .incoming) ≡ 0
 
--- What arrives of the whole group g is its symbols in the air, each plus t modulo q, but for one run of at most W × (n/4 − 1) adjacent ones.
+-- What arrives of the whole group g is its symbols in the air, each plus t modulo q, but for one run of at most W × (n/4 − 1) adjacent
+-- ones.
 pub record BurstPassage (q m t count start len : ℕ) (strap : List SenderSlot) (passage : Passage) (g : ℕ) : Type 0 where
   pub whole : WholeGroup q m count strap passage g
   pub short : len ≤ count * (2 ^ m / 4 - 1)

@@ -1,7 +1,7 @@
 //! Whole sessions in groups: the strap's words are rearranged group by group, turned by one number, altered in one run
 //! of adjacent symbols, and put back before the launch receives them. The run leaves each word fewer than a quarter
-//! altered or, at times, is longer by one symbol, so that one word of the group is doubtful. What "Whole sessions" says
-//! of each slot is checked as for words that travel one by one.
+//! altered or, at times, is longer by one symbol, so that one word of the group is doubtful if it is received. What
+//! "Whole sessions" says of each slot is checked as for words that travel one by one.
 
 use common::questions::CODES;
 use common::random::Random;
@@ -12,10 +12,11 @@ use crate::interleave::{self, Interleave};
 use crate::sessions::{Sessions, Slices};
 use crate::whole::{Lists, Slot};
 
-/// The slots of the launch by what became of them, and those whose zone the claim speaks of.
+/// The slots of the launch by what became of them, and those read by what became of the slot before.
 pub struct Groups {
     light: Counts,
-    unread: Counts,
+    doubtful: Counts,
+    missed: Counts,
     with_zone_sent: Counts,
     after_unread: Counts,
 }
@@ -25,7 +26,8 @@ impl Groups {
         let counts = |name| Counts::new(name, &[], &CODES);
         Groups {
             light: counts("slots read from groups"),
-            unread: counts("slots missed or doubtful of groups"),
+            doubtful: counts("slots doubtful of groups"),
+            missed: counts("slots missed of groups"),
             with_zone_sent: counts("slots read from groups with the zone sent"),
             after_unread: counts("slots read from groups after one missed or doubtful"),
         }
@@ -59,23 +61,25 @@ impl Groups {
     }
 
     /// No word of a group has more than a quarter of its symbols altered. So it is read as it was sent or not at all:
-    /// one that is read in spite of heavier damage is a mismatch.
+    /// one that is read with a quarter altered is a mismatch.
     fn count(&mut self, report: &mut Report, code: (u32, u32), before: Option<Slot>, slot: Slot) {
         match slot {
             Slot::Light => self.light.add(code, 0),
-            Slot::Unread => self.unread.add(code, 0),
+            Slot::Doubtful => self.doubtful.add(code, 0),
+            Slot::Missed => self.missed.add(code, 0),
             Slot::Heavy => report.require(false, || format!("{slot:?} slot of a group, (q, m) = {code:?}")),
         }
         match before {
             Some(Slot::Light) if slot == Slot::Light => self.with_zone_sent.add(code, 0),
-            Some(Slot::Unread) if slot == Slot::Light => self.after_unread.add(code, 0),
+            Some(before) if slot == Slot::Light && !before.is_read() => self.after_unread.add(code, 0),
             _ => {}
         }
     }
 
     /// Prints the counts; a kind of slot never seen is a failure.
     pub fn finish(&self, report: &mut Report) {
-        for counts in [&self.light, &self.unread, &self.with_zone_sent, &self.after_unread] {
+        let zones = [&self.with_zone_sent, &self.after_unread];
+        for counts in [&self.light, &self.doubtful, &self.missed].into_iter().chain(zones) {
             counts.print();
             counts.require_all(report);
         }

@@ -160,13 +160,13 @@ impl Interleave {
         self.seen(way).undone.add(code, 0);
     }
 
-    /// Every group of the smallest ones, and groups of every number of words in every code that show where the symbol
-    /// of each place goes, and that each is asked about.
+    /// Every small group; and, of every number of words in every code, groups that show where the symbol of each place
+    /// goes, and that one outside the alphabet is seen.
     pub fn every_place(&mut self, report: &mut Report, random: &mut Random) {
         interleave_cases::every_source(random, |case| self.both(report, case));
         for (code, count) in groups() {
             interleave_cases::places_told_apart(random, code, count, |case| self.both(report, case));
-            interleave_cases::outside_at_each_place(random, code, count, |case| self.both(report, case));
+            interleave_cases::outside_all_over(random, code, count, |case| self.both(report, case));
         }
     }
 

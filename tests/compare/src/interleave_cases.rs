@@ -1,5 +1,5 @@
 //! Cases for rearranging a group and putting it back: every small group, groups whose places can be told apart, counts
-//! of words that no group has, faults at every place and in every combination, and random cases.
+//! of words that no group has, faults all over a group and in every combination, and random cases.
 
 use common::random::{alter, Random};
 
@@ -26,11 +26,12 @@ const LAST_Q: u32 = 17;
 const LAST_M: u32 = 10;
 const LAST_COUNT: u32 = 20;
 
-/// Of groups of up to so many words of the smallest code every source is tried.
+/// Of groups of up to so many words of the smallest code every source with symbols below q is tried.
 const LISTED_WORDS: u32 = 3;
 
-/// A group with at most so many places has a case for each of them.
+/// A group with at most so many places has a case for each of them, and a larger one a fault in each run of so many.
 pub const FEW_PLACES: usize = 256;
+const RUN: usize = 32;
 
 /// A sound case with this source, and any bytes in a target of the same length.
 pub fn sound(random: &mut Random, (q, m): (u32, u32), count: u32, source: Vec<u8>) -> Case {
@@ -61,17 +62,18 @@ pub fn places_told_apart(random: &mut Random, (q, m): (u32, u32), count: u32, mu
     }
 }
 
-/// Groups with one symbol that is not below q, at each place where there are few of them.
-pub fn outside_at_each_place(random: &mut Random, (q, m): (u32, u32), count: u32, mut each: impl FnMut(&Case)) {
+/// Groups with one symbol that is not below q: at each place where there are few, and else at some place of each run.
+pub fn outside_all_over(random: &mut Random, (q, m): (u32, u32), count: u32, mut each: impl FnMut(&Case)) {
     let places = (count as usize) << m;
-    for place in (0..places).filter(|_| places <= FEW_PLACES) {
+    let run = if places <= FEW_PLACES { 1 } else { RUN };
+    for start in (0..places).step_by(run) {
         let mut source = random.symbols(q, places);
-        source[place] = random.pick(&[q as u8, u8::MAX]);
+        source[start + random.below(run)] = random.pick(&[q as u8, u8::MAX]);
         each(&sound(random, (q, m), count, source));
     }
 }
 
-/// Every source of up to so many words of the smallest code.
+/// Every such source.
 pub fn every_source(random: &mut Random, mut each: impl FnMut(&Case)) {
     let (q, m) = (2, 2);
     for count in 1..=LISTED_WORDS {

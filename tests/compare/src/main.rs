@@ -156,7 +156,7 @@ fn groups(report: &mut Report, random: &mut Random, model: &Model) {
     let mut interleave = Interleave::new();
     let mut bursts = Bursts::new();
     let mut groups = Groups::new();
-    println!("compare: groups of every number of words, there and back, and where the symbol of every place goes");
+    println!("compare: groups of every number of words, there and back, every small one, and where each symbol goes");
     interleave.every_group(report, random, GROUP_ROUNDS);
     interleave.every_place(report, random);
     println!("compare: groups with every count of words, with every combination of faults, and {RANDOM_GROUPS} random");

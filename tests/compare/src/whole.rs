@@ -14,12 +14,19 @@ use crate::session_model::NONE;
 use crate::sessions::{Call, Sessions, Slices};
 
 /// What became of a slot of the launch: fewer than a quarter of the symbols altered, read in spite of heavier damage,
-/// or missed or doubtful.
+/// doubtful, or missed.
 #[derive(Clone, Copy, Debug, PartialEq, Eq)]
 pub enum Slot {
     Light,
     Heavy,
-    Unread,
+    Doubtful,
+    Missed,
+}
+
+impl Slot {
+    pub fn is_read(self) -> bool {
+        matches!(self, Slot::Light | Slot::Heavy)
+    }
 }
 
 /// A strap and a launch with the slots so far.
@@ -100,11 +107,11 @@ impl Whole {
         match slot {
             Slot::Light => self.light.add(code, 0),
             Slot::Heavy => self.heavy.add(code, 0),
-            Slot::Unread => self.unread.add(code, 0),
+            Slot::Doubtful | Slot::Missed => self.unread.add(code, 0),
         }
         match lists.before {
             Some(Slot::Light) if slot == Slot::Light => self.with_zone_sent.add(code, 0),
-            Some(Slot::Heavy) if slot != Slot::Unread => self.after_heavy.add(code, 0),
+            Some(Slot::Heavy) if slot.is_read() => self.after_heavy.add(code, 0),
             _ => {}
         }
     }
@@ -171,7 +178,7 @@ impl Lists {
         if random.one_in(8) {
             let number = sessions.call(report, Call::Miss, &mut self.launch);
             report.require(number == DONE, || format!("slot {} not missed: {number}", self.slot));
-            return Slot::Unread;
+            return Slot::Missed;
         }
         let reference = self.launch.session[2];
         let number = sessions.call(report, Call::Receive, &mut self.launch);
@@ -214,7 +221,7 @@ impl Lists {
         match number {
             DONE if light => Slot::Light,
             DONE => Slot::Heavy,
-            _ => Slot::Unread,
+            _ => Slot::Doubtful,
         }
     }
 
@@ -224,7 +231,7 @@ impl Lists {
         let symbol = u32::from(self.launch.message[0]);
         let constant = self.launch.session[2];
         let due_zone = match self.before {
-            None | Some(Slot::Unread) => zone == NONE && symbol == 0,
+            None | Some(Slot::Doubtful | Slot::Missed) => zone == NONE && symbol == 0,
             _ => zone == constant.wrapping_sub(reference) % self.q && symbol == zone,
         };
         due_zone && time == self.slot * SLOT_MS
