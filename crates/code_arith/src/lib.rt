@@ -1,4 +1,6 @@
 // Arithmetic that every layer may use.
+#![tactic(auto)]
+
 ghost use Rattle.std.specs.Prelude.{◌≡◌, true, ◌+◌, ◌%◌, ◌^◌, ◌<◌, ◌≤◌, min, max};
 ghost use Rattle.code_theory.specs.Internal.{nth_clear};
 ghost use Rattle.code_theory.specs.Modular.{sub_mod};

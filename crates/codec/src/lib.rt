@@ -1,4 +1,6 @@
 // Words of RM_q(1, m): encode (docs/REQUIREMENTS.md: Write) and decode (Read).
+#![tactic(auto)]
+
 ghost use Rattle.std.specs.Prelude.{◌≡◌};
 ghost use Rattle.codec.specs.Codec.{encode_answer, encode_word, encoded, decode_answer, decode_message, decoded};
 ghost use Rattle.codec.specs.Internal.{size_refusal, word_refusal};
@@ -8,14 +10,14 @@ use decode_reading::Outcome;
 pub use decode_reading::Reading;
 
 // What encode answers.
-#[derive(Drop)]
+#[derive(Clone, Copy)]
 pub enum Encoded {
     Written,
     Refused(u32),
 }
 
 // What decode answers.
-#[derive(Drop)]
+#[derive(Clone, Copy)]
 pub enum Decoded {
     Read(Reading),
     Refused(u32),

@@ -1,4 +1,6 @@
 // Exports for the comparison with Rust, and for nothing else: each answer as one number.
+#![tactic(auto)]
+
 ghost use Rattle.std.specs.Prelude.{◌≡◌};
 ghost use Rattle.codec.specs.Codec.{encode_word, decode_message};
 ghost use Rattle.compare_codec.specs.Internal.{encode_number, decode_number};

@@ -1,4 +1,6 @@
 // Groups of words for a program that holds them against another implementation; nothing else uses this crate.
+#![tactic(auto)]
+
 ghost use Rattle.std.specs.Prelude.{◌≡◌};
 ghost use Rattle.code_theory.specs.Internal.{answer_number};
 ghost use Rattle.interleave.specs.Interleave.{group_answer, rearrange_target, put_back_target};

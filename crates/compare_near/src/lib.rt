@@ -1,4 +1,6 @@
 // Confirm for a program that holds it against another implementation; nothing else uses this crate.
+#![tactic(auto)]
+
 ghost use Rattle.std.specs.Prelude.{◌≡◌};
 ghost use Rattle.decode_near.specs.Nearness.{near_answer};
 ghost use Rattle.compare_near.specs.Internal.{near_number};

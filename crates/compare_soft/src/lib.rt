@@ -1,4 +1,6 @@
 // The soft calls for a program that compares them with another implementation; nothing else uses this crate.
+#![tactic(auto)]
+
 ghost use Rattle.std.specs.Prelude.{◌≡◌};
 ghost use Rattle.soft_theory.specs.Numbers.{f32};
 ghost use Rattle.soft_theory.specs.Soft.{soft_vote, read_answer, read_message};

@@ -1,4 +1,6 @@
 // The strap's calls for a program that compares them with another implementation; nothing else uses this crate.
+#![tactic(auto)]
+
 ghost use Rattle.std.specs.Prelude.{◌≡◌};
 ghost use Rattle.strap.specs.Strap.{pack_answer, pack_message, unpack_answer};
 ghost use Rattle.code_theory.specs.Internal.{answer_number};

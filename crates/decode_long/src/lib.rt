@@ -1,5 +1,7 @@
 // Reading words of 64 places and more by majority-logic decoding (HPL-98-195, section 3.1): all votes are counted, sixteen at a
 // time, and the winners are the only message that can be near the word. It reads 32 places too, which decode_short does faster.
+#![tactic(auto)]
+
 ghost use Rattle.std.specs.Prelude.{◌≡◌, true, ◌+◌, ◌-◌, ◌^◌, ◌<◌, ◌≤◌, min, length, set};
 ghost use Rattle.code_theory.specs.Sum.{at};
 ghost use Rattle.code_theory.specs.Question.{is_alphabet};
@@ -121,6 +123,6 @@ pub fn read(q: u32, m: u32, message: &mut [u8], word: &[u8]) -> Outcome
         return Outcome::Doubtful;
     }
     let n = message.len();
-    bytes::copy(&found[..n], message);
+    message.copy_from_slice(&found[..n]);
     Outcome::Read(reading)
 }

@@ -1,11 +1,13 @@
 // Confirm (docs/REQUIREMENTS.md): whether a message is near a received word, with a body for each length. The word of the message is
 // written into a buffer, and its places are compared with those of the received word; that word is not read.
+#![tactic(auto)]
+
 ghost use Rattle.std.specs.Prelude.{◌≡◌, true, ◌<◌, ◌≤◌};
 ghost use Rattle.code_theory.specs.Question.{is_alphabet, is_variables};
 ghost use Rattle.decode_near.specs.Nearness.{near_answer, nearness};
 
 // What is_near answers.
-#[derive(Drop)]
+#[derive(Clone, Copy)]
 pub enum Nearness {
     Near,
     NotNear,

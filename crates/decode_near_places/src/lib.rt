@@ -1,4 +1,6 @@
 // Compares a received word with a codeword, place by place, up to the place where a quarter of all places differ.
+#![tactic(auto)]
+
 ghost use Rattle.std.specs.Prelude.{◌≡◌, ◌+◌, ◌*◌, ◌<◌, ◌≤◌, ltb, length};
 ghost use Rattle.code_theory.specs.Sum.{at};
 ghost use Rattle.code_theory.specs.Modular.{differ};

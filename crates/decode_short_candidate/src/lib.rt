@@ -1,6 +1,8 @@
 // The candidate of a word of 4, 8, 16 or 32 places: the only message that can be near the word. For each symbol an odd number of votes is
 // taken, and the symbol is the value that more than half of them have; the votes for the other values are not counted. The word stands in
 // the four-bit lanes of one number, or of two, as swar_lanes packs it.
+#![tactic(auto)]
+
 ghost use Rattle.std.specs.Prelude.{◌≡◌, true, ◌%◌, ◌^◌, ◌<◌};
 ghost use Rattle.code_theory.specs.Question.{is_alphabet};
 ghost use Rattle.swar_lanes.specs.Internal.{LanesBelow, lane_bit};
@@ -54,7 +56,7 @@ fn fifteen(q: u64, d: u64, e: u64, i: u32, j: u32, k: u32) -> u64
 }
 
 // The constant and the coefficients of a message; the coefficients from m on are 0.
-#[derive(Drop)]
+#[derive(Clone, Copy)]
 pub struct Candidate {
     pub constant: u64,
     pub c0: u64,

@@ -1,5 +1,7 @@
 // The errors of a received word: the word minus the word of a message. Sixteen places stand in the four-bit lanes of one number, as
 // swar_lanes packs them.
+#![tactic(auto)]
+
 ghost use Rattle.std.specs.Prelude.{◌≡◌, true, ◌+◌, ◌*◌, ◌%◌, ◌<◌};
 ghost use Rattle.code_theory.specs.Modular.{sub_mod};
 ghost use Rattle.code_theory.specs.Question.{is_alphabet};

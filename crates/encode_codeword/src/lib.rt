@@ -2,6 +2,8 @@
 // doubled, eight places at a time: the second half of the first 2^(k+1) places is the first half plus a_k. Longer words start with 64
 // places, each computed from the bits of its index, and the compiler computes sixteen at once. There is a function for each length, so that
 // the compiler makes a body for each.
+#![tactic(auto)]
+
 ghost use Rattle.std.specs.Prelude.{◌≡◌, true, ℕ, ◌+◌, ◌*◌, ◌%◌, ◌<◌, ◌≤◌, length};
 ghost use Rattle.code_theory.specs.Sum.{at};
 ghost use Rattle.code_theory.specs.Index.{bit};

@@ -1,5 +1,7 @@
 // The library from Rattle: a message is written as a word, one symbol of the word is damaged, and the word is read. Prints in how many
 // places it was wrong, or the number of the refusal.
+#![tactic(auto)]
+
 use codec::Decoded;
 
 fn main() {

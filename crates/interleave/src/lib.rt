@@ -1,11 +1,13 @@
 // Groups of words: interleave (docs/REQUIREMENTS.md: Rearrange) and deinterleave (Put back).
+#![tactic(auto)]
+
 ghost use Rattle.std.specs.Prelude.{◌≡◌, true};
 ghost use Rattle.code_theory.specs.Question.{is_alphabet};
 ghost use Rattle.interleave_theory.specs.Group.{is_group};
 ghost use Rattle.interleave.specs.Interleave.{group_refusal, group_answer, rearrange_target, put_back_target, moved};
 
 // What both calls answer.
-#[derive(Drop)]
+#[derive(Clone, Copy)]
 pub enum Moved {
     Done,
     Refused(u32),

@@ -1,6 +1,8 @@
 // Groups that are moved through small arrays: their symbols are copied out of the source, shuffled and copied into the target, all at once
 // where the group is small, and else in blocks of sixteen words by sixteen places. The arrays have a length that the compiler knows, and it
 // keeps what it can of them in registers.
+#![tactic(auto)]
+
 ghost use Rattle.std.specs.Prelude.{◌≡◌, ◌+◌, ◌*◌, ◌/◌, ◌%◌, ◌^◌, ◌≤◌, length};
 ghost use Rattle.interleave_theory.specs.Place.{transposed};
 ghost use Rattle.interleave_theory.specs.Internal.{Transposes};

@@ -1,4 +1,6 @@
 // Rows of symbols transposed, in a way that goes by how many rows there are and how long they are.
+#![tactic(auto)]
+
 ghost use Rattle.std.specs.Prelude.{◌≡◌, ◌*◌, length};
 ghost use Rattle.interleave_theory.specs.Place.{transposed};
 

@@ -1,5 +1,7 @@
 // Groups of words whose slices are asked about first: questions 7, 7 and 8 (docs/REQUIREMENTS.md), and then the rows of the source are
 // transposed into the target. Where the number of symbols is written out, the compiler makes straight code of both together.
+#![tactic(auto)]
+
 ghost use Rattle.std.specs.Prelude.{◌≡◌, true, ◌+◌, ◌*◌, ◌/◌, ◌%◌, ◌^◌, ◌≤◌, length};
 ghost use Rattle.code_theory.specs.Question.{is_alphabet, all_below};
 ghost use Rattle.code_questions.specs.Internal.{Tells};

@@ -1,4 +1,6 @@
 // Rows of symbols transposed symbol by symbol: a rows of b symbols, of any number and length.
+#![tactic(auto)]
+
 ghost use Rattle.std.specs.Prelude.{◌≡◌, ◌+◌, ◌*◌, ◌<◌, length};
 ghost use Rattle.interleave_theory.specs.Place.{transposed};
 ghost use Rattle.interleave_theory.specs.Internal.{Filled};

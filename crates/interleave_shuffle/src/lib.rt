@@ -1,5 +1,7 @@
 // Rows of symbols transposed by shuffles. One shuffle takes the symbols of two halves in turn, and so it transposes two rows; two shuffles
 // transpose four rows, and four of them sixteen. The compiler makes vector code of the loop.
+#![tactic(auto)]
+
 ghost use Rattle.std.specs.Prelude.{◌≡◌, ◌*◌, ◌≤◌, length};
 ghost use Rattle.interleave_theory.specs.Internal.{Transposes};
 

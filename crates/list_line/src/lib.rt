@@ -1,4 +1,6 @@
 // The session list: one line of input in, the session after it and one line of output out.
+#![tactic(auto)]
+
 ghost use Rattle.std.specs.Prelude.{◌≡◌, true, [], ◌∷◌, ◌++◌, ◌+◌, ◌≤◌, length};
 ghost use Rattle.text_buffer.specs.Text.{put};
 ghost use Rattle.text_buffer.specs.Internal.{field};
@@ -11,7 +13,7 @@ use session::{Delivery, Missed, Received, Receiver, Zone};
 use text_lines::Kind;
 
 // What a line leaves: the session after it, the place behind its output, and whether it ends the reading.
-#[derive(Drop)]
+#[derive(Clone, Copy)]
 pub struct Listed {
     pub receiver: Receiver,
     pub next: usize,

@@ -1,4 +1,6 @@
 // The session list of an input that comes in chunks. What is kept between them does not grow with the input.
+#![tactic(auto)]
+
 ghost use Rattle.std.specs.Prelude.{◌≡◌, false, ◌≤◌, length, take};
 ghost use Rattle.text_buffer.specs.Text.{put};
 ghost use Rattle.list_line.specs.Listing.{opened};
@@ -13,7 +15,7 @@ use session::{Receiver, ReceiverOpened, Reference};
 use text_chunks::Next;
 
 // A listing on its way: the session, how many bytes of the line that has begun are kept, and whether the reading has ended.
-#[derive(Drop)]
+#[derive(Clone, Copy)]
 pub struct Lister {
     pub receiver: Receiver,
     pub kept: usize,
@@ -21,7 +23,7 @@ pub struct Lister {
 }
 
 // What some bytes leave: the lister, the place behind their output, and how many they were.
-#[derive(Drop)]
+#[derive(Clone, Copy)]
 struct Step {
     lister: Lister,
     next: usize,
@@ -29,7 +31,7 @@ struct Step {
 }
 
 // What a chunk leaves: the lister, how many of its bytes were read, and how many bytes of output they brought.
-#[derive(Drop)]
+#[derive(Clone, Copy)]
 struct Fed {
     lister: Lister,
     read: usize,
@@ -182,7 +184,7 @@ fn finish(lister: Lister, line: &[u8], out: &mut [u8]) -> usize
 }
 
 // What a round leaves: the lister, how many bytes of the output are to be written, and what comes next.
-#[derive(Drop)]
+#[derive(Clone, Copy)]
 pub struct Round {
     pub lister: Lister,
     pub written: usize,

@@ -1,4 +1,6 @@
 // The C form of Write and Read, for the launch tablet. include/rm.h has the prototypes.
+#![tactic(auto)]
+
 ghost use Rattle.std.specs.Prelude.{◌≡◌};
 ghost use Rattle.codec.specs.Codec.{encode_word, decode_message};
 ghost use Rattle.rm_c.specs.CForm.{write_number, read_number};

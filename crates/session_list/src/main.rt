@@ -1,6 +1,8 @@
 // The session list: reads the lines of a session from standard input and lists them on standard output. What is listed for the bytes of a
 // read, and what comes next, is decided by list_stream::list_round; here are only the calls of the system. A read or a write that fails
 // ends the list and says so on standard error: a list that is cut short looks like a whole one.
+#![tactic(auto)]
+
 ghost use Rattle.std.specs.Prelude.{◌≡◌, true, false, ◌≤◌, length};
 ghost use Rattle.text_chunks.specs.Reading.{given};
 ghost use Rattle.text_chunks.specs.Internal.{rest_place, goes_on, IfRest};
@@ -9,7 +11,7 @@ use libc::{STDIN_FILENO, STDOUT_FILENO};
 use text_chunks::Next;
 
 // Where the listing stands: what the last read gave, and its error; the place in the chunk up to which it is listed; whether it goes on.
-#[derive(Drop)]
+#[derive(Clone, Copy)]
 struct Place {
     got: isize,
     error: i32,

@@ -1,4 +1,6 @@
 // The sums of the votes for every coefficient at once, q = 4: many samples by rows of eight votes, eight or sixteen in one loop.
+#![tactic(auto)]
+
 ghost use Rattle.std.specs.Prelude.{◌≡◌, ◌+◌, ◌*◌, ◌/◌, ◌<◌, ◌≤◌, length};
 ghost use Rattle.soft_theory.specs.Numbers.{f32};
 ghost use Rattle.soft_theory.specs.Complex.{sample};

@@ -1,4 +1,6 @@
 // The samples turned back by the quarter turns that the coefficients ask for, and their two sums, q = 4.
+#![tactic(auto)]
+
 ghost use Rattle.std.specs.Prelude.{◌≡◌, ◌<◌, ◌≤◌, length};
 ghost use Rattle.code_theory.specs.Sum.{at};
 ghost use Rattle.encode_codeword.specs.Internal.{Written};

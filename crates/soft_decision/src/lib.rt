@@ -1,4 +1,6 @@
 // The decision for one symbol by its two sums.
+#![tactic(auto)]
+
 ghost use Rattle.std.specs.Prelude.{◌≡◌, cond};
 ghost use Rattle.std.specs.Float.Ieee.{lt};
 ghost use Rattle.soft_theory.specs.Numbers.{f32};
@@ -9,7 +11,7 @@ ghost use Rattle.soft_decision.specs.Voted.{voted};
 use soft_vote_sums::Sums;
 
 // What one soft vote answers.
-#[derive(Drop)]
+#[derive(Clone, Copy)]
 pub enum SoftVote {
     Sure(u8, Sums),
     Unsure(Sums),

@@ -1,4 +1,6 @@
 // The two sums of the votes for one coefficient, q = 4.
+#![tactic(auto)]
+
 ghost use Rattle.std.specs.Prelude.{◌≡◌, ◌/◌, ◌<◌, length, get_or};
 ghost use Rattle.code_theory.specs.Internal.{nth_clear};
 ghost use Rattle.soft_theory.specs.Numbers.{f32};
@@ -8,7 +10,7 @@ ghost use Rattle.soft_vote_sums.specs.Pair.{pair};
 ghost use Rattle.soft_vote_sums.specs.Internal.{complex, Samples, vote_at};
 
 // The real and the imaginary sum of a vote, kept together.
-#[derive(Drop)]
+#[derive(Clone, Copy)]
 pub struct Sums {
     pub re: f32,
     pub im: f32,

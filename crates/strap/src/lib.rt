@@ -1,23 +1,25 @@
 // The strap's message, q = 4, m = 4: a rate of 0 to 255 beats per minute in the four coefficients, and a zone of 0 to 3.
+#![tactic(auto)]
+
 ghost use Rattle.std.specs.Prelude.{◌≡◌};
 ghost use Rattle.strap.specs.Strap.{rate_of, pack_refusal, pack_answer, pack_message, packed, unpack_refusal, unpack_answer, unpacked};
 
 // What pack answers.
-#[derive(Drop)]
+#[derive(Clone, Copy)]
 pub enum Packed {
     Filled,
     Refused(u32),
 }
 
 // What a strap's message says.
-#[derive(Drop)]
+#[derive(Clone, Copy)]
 pub struct Report {
     pub rate: u8,
     pub zone: u8,
 }
 
 // What unpack answers.
-#[derive(Drop)]
+#[derive(Clone, Copy)]
 pub enum Unpacked {
     Report(Report),
     Refused(u32),

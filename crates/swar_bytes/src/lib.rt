@@ -1,5 +1,7 @@
 // Up to eight symbols in the bytes of one number: they are read from a slice, written to it, and reduced modulo q by a mask. Each read and
 // write is written out byte by byte, with no loop, so that the compiler makes one load or one store of it.
+#![tactic(auto)]
+
 ghost use Rattle.std.specs.Prelude.{◌≡◌, true, ℕ, ◌+◌, ◌-◌, ◌<◌, ◌≤◌, length};
 ghost use Rattle.code_theory.specs.Sum.{at};
 ghost use Rattle.code_theory.specs.Question.{is_alphabet};

@@ -1,4 +1,6 @@
 // The four-bit lanes of a number that have a value, marked and counted.
+#![tactic(auto)]
+
 ghost use Rattle.std.specs.Prelude.{◌≡◌, ◌*◌, ◌<◌};
 ghost use Rattle.code_theory.specs.Sum.{sum};
 ghost use Rattle.code_theory.specs.Modular.{same};

@@ -1,5 +1,7 @@
 // The votes of a word, sixteen places at a time. Sixteen symbols stand in the four-bit lanes of one number: lane t of number j is place
 // 16 j + offset t of the word. The numbers of a long word stand in a lent array of sixteen.
+#![tactic(auto)]
+
 ghost use Rattle.std.specs.Prelude.{◌≡◌, true, ◌+◌, ◌*◌, ◌/◌, ◌^◌, ◌<◌, ◌≤◌, length};
 ghost use Rattle.code_theory.specs.Sum.{at};
 ghost use Rattle.code_theory.specs.Modular.{sub_mod};

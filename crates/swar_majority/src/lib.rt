@@ -1,5 +1,7 @@
 // The value that most of 3, 7 or 15 lanes of four bits have, with no loop: a full adder on whole numbers counts the bits of the lanes,
 // one count at each bit of a number.
+#![tactic(auto)]
+
 ghost use Rattle.std.specs.Prelude.{◌+◌, ◌<◌};
 ghost use Rattle.swar_majority.specs.Internal.{three_of, seven_of, fifteen_of, Most, Parity, Carry, Down, Counted};
 
@@ -26,7 +28,7 @@ fn down(d: u64, a: u32) -> u64
 }
 
 // At each bit, a count of up to seven: its three bits stand in three numbers.
-#[derive(Drop)]
+#[derive(Clone, Copy)]
 pub struct Count {
     pub ones: u64,
     pub twos: u64,

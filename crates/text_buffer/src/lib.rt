@@ -1,4 +1,6 @@
 // Text put into a lent buffer, one piece after the other.
+#![tactic(auto)]
+
 ghost use Rattle.std.specs.Prelude.{◌≡◌, [], ◌∷◌, ◌+◌, ◌/◌, ◌%◌, ◌≤◌, ◌<◌, length};
 ghost use Rattle.text_buffer.specs.Text.{put, decimal};
 ghost use Rattle.text_buffer.specs.Internal.{field};

@@ -1,9 +1,12 @@
 // An input that comes in chunks becomes lines: what every program that reads lines shares, whatever it makes of them.
+#![tactic(auto)]
+
 ghost use Rattle.std.specs.Prelude.{◌≡◌, ◌≤◌, length, take};
 ghost use Rattle.text_chunks.specs.Internal.{keep_all};
 ghost use Rattle.text_chunks.specs.Reading.{after_failure, after_part};
 
-use libc::EINTR;
+// The error of a call that a signal interrupted.
+const EINTR: i32 = 4;
 
 // Keeps the bytes of a line, as far as there is room for them, and returns how many are kept then.
 pub fn keep_part(kept: usize, line: &mut [u8], part: &[u8]) -> usize
@@ -24,7 +27,7 @@ pub fn keep_part(kept: usize, line: &mut [u8], part: &[u8]) -> usize
 
 // What comes after a round of such a program: a read, the rest of this chunk from a place on, or nothing more, since the reading has ended
 // or a read failed.
-#[derive(Drop)]
+#[derive(Clone, Copy)]
 pub enum Next {
     Read,
     Rest(usize),

@@ -1,6 +1,6 @@
 -- What the code finds in a line, and where a line ends.
 use Rattle.std.specs.Prelude.{ℕ, Bool, ◌&&◌, List, eqb, ltb, length, take}
-use Rattle.bytes.specs.Bytes.{index_of}
+
 use Rattle.code_theory.specs.Sum.{at}
 use Rattle.text_lines.specs.declared.Kind.{Kind}
 use Rattle.text_lines.specs.declared.Kind.TheVariants as K

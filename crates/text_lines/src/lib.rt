@@ -1,10 +1,12 @@
 // What a line of input is: a slot, a miss, or malformed; q = 4, m = 4.
+#![tactic(auto)]
+
 ghost use Rattle.std.specs.Prelude.{◌≡◌, true, length};
 ghost use Rattle.text_lines.specs.Line.{is_digit, is_digits, is_slot, is_miss, word_of, read_line};
 ghost use Rattle.text_lines.specs.Internal.{line_of, line_length, has_slot, has_miss};
 
 // What a line says.
-#[derive(Drop)]
+#[derive(Clone, Copy)]
 pub enum Kind {
     Slot,
     Miss,
@@ -33,7 +35,12 @@ fn is_digits(line: &[u8]) -> bool
 pub fn line_length(bytes: &[u8]) -> usize
     ensures { result ≡ line_length bytes.now }
 {
-    bytes::scan::find(bytes, 0, bytes.len(), b'\n')
+    for (i, b) in bytes.iter().enumerate() {
+        if *b == b'\n' {
+            return i;
+        }
+    }
+    bytes.len()
 }
 
 // Whether the line is a slot: 16 digits 0 to 3.

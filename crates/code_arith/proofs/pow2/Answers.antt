@@ -1,0 +1,11 @@
+-- `pow2` meets its contract: nothing is shifted out.
+use Prim.Native.Nat.{◌^◌}
+use mathlib.Core.Path.{◌∙◌}
+use native.Mathlib.Nat.{one-mul}
+use native.Mathlib.Omega.{arith}
+use lib.Dec.{lit<}
+use lib.Pow.{shl_exact}
+use Rattle.code_arith.proofs.pow2.Goals as goal
+
+pub returns : goal.returns
+returns c = shl_exact {a = 1} 1 c.args.m 64 (lit< tt) (omega arith) ∙ one-mul (2 ^ c.args.m)

@@ -1,0 +1,14 @@
+-- `store_4` meets its contract: a shorter message, and one symbol more.
+use mathlib.Core.Path.{refl}
+use Rattle.decode_short_candidate.specs.Internal.{message}
+use Rattle.decode_short.proofs.SettleLaws.{stored_next}
+use Rattle.decode_short.proofs.store_4.Goals as goal
+
+pub returns : goal.returns
+unfolding message
+returns c =
+    let f = c.store_3 in
+    let e = c.put in
+    let shorter = message c.args.a c.args.c0 c.args.c1 0 0 0 in
+    let longer = message c.args.a c.args.c0 c.args.c1 c.args.c2 0 0 in
+    stored_next 3 shorter longer c.args.s.now f.new.0 e.new.0 c.args.c2 c.requires.0 f.ensures refl refl e.ensures

@@ -1,0 +1,10 @@
+-- `blocks_back` meets its contract. The loop's invariant: the blocks passed are done.
+use Prim.Native.Nat.{◌*◌, ◌/◌, ◌-◌, ◌≤◌}
+use Rattle.interleave_block.specs.Internal.{Done}
+use Rattle.interleave_block.proofs.blocks_back.Given as goal
+
+abbrev pub invariant-loop-k : goal.invariant-loop-k
+invariant-loop-k l = (l.k ≤ l.n / 16) × Done l.n 16 0 (16 * l.k) l.from l.to
+
+abbrev pub decreases-loop-k : goal.decreases-loop-k
+decreases-loop-k l = l.n / 16 - l.k

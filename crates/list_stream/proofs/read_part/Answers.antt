@@ -1,0 +1,60 @@
+-- `read_part` meets its contract: a miss is listed at once, any other part is kept and, where a newline ends it, listed.
+use mathlib.Core.Path.{sym, ap, ◌∙◌}
+use native.Mathlib.Omega.{arith}
+use lib.ListN.{take}
+use lib.Seq.{length-take-le}
+use Rattle.text_lines.specs.Line.{miss, read_line}
+use Rattle.text_lines.proofs.EndingLaws.{line_within, miss_ends}
+use Rattle.text_chunks.specs.Internal.{keep_all}
+use Rattle.text_chunks.proofs.LineLaws.{miss_line}
+use Rattle.list_stream.proofs.StreamLaws.{line_fit, reads_line, reads_part}
+use Rattle.list_stream.proofs.read_part.Goals as goal
+
+pub after_line-requires : goal.after_line-requires
+after_line-requires c =
+    line_fit c.args.lister c.args.line.now _ _ c.requires.fit c.List-miss.ensures.0
+
+pub returns-then-has_miss : goal.returns-then-has_miss
+returns-then-has_miss c =
+    let a = c.args in
+    let yes = sym c.has_miss.ensures ∙ c.if-has_miss.true in
+    let f = miss_ends c.line_length-n.result a.bytes.now c.line_length-n.ensures yes in
+    let e = c.List-miss.ensures in
+    let line = miss_line a.line.now a.bytes.now a.lister.kept c.line_length-n.result c.else-begun-eq0.true c.line_length-n.ensures yes in
+    reads_line a.lister a.line.now a.line.now a.bytes.now a.out.now a.at c.requires c.requires.fit.size miss c.List-miss.result 2 _ _
+    (omega (arith, f.2)) (omega (arith, f.0, f.1, f.2)) line
+    e.0 e.1.0 (record { place = e.1.1.0; buffer = e.1.1.1 }) c.after_Line.ensures
+
+pub slice_bounds-keep_part-end : goal.slice_bounds-keep_part-end
+slice_bounds-keep_part-end c =
+    let bytes = c.args.bytes.now in
+    sym (length-take-le c.line_length-n.result bytes (omega (arith, c.line_length-n.ensures, line_within bytes)))
+
+pub returns-then-n-bytes : goal.returns-then-n-bytes
+returns-then-n-bytes c =
+    let a = c.args in
+    let e = c.keep_part-kept.ensures in
+    reads_part a.lister a.line.now c.keep_part-kept.new.1.0 a.bytes.now a.out.now a.at c.requires (c.keep_part-kept.auto.line ∙ c.requires.fit.size)
+    c.keep_part-kept.result c.line_length-n.result c.line_length-n.ensures c.if-n-bytes.true e.bound e.part
+
+pub slice_bounds-list_line-end-2 : goal.slice_bounds-list_line-end-2
+slice_bounds-list_line-end-2 c =
+    sym (length-take-le c.keep_part-kept.result c.keep_part-kept.new.1.0 (omega (arith, c.keep_part-kept.ensures.bound, c.keep_part-kept.auto.line, c.requires.fit.size)))
+
+pub overflow_add-n : goal.overflow_add-n
+overflow_add-n c =
+    omega (arith, c.line_length-n.ensures, line_within c.args.bytes.now, c.if-n-bytes.false, c.well_formed)
+
+pub after_line-requires-2 : goal.after_line-requires-2
+after_line-requires-2 c =
+    line_fit c.args.lister c.args.line.now _ _ c.requires.fit c.list_line.ensures.session
+
+pub returns : goal.returns
+returns c =
+    let a = c.args in
+    let e = c.list_line.ensures in
+    let l = c.line_length-n.ensures in
+    reads_line a.lister a.line.now c.keep_part-kept.new.1.0 a.bytes.now a.out.now a.at c.requires (c.keep_part-kept.auto.line ∙ c.requires.fit.size) _
+    c.list_line.result _ _ _ (omega (arith, l)) (omega (arith, l, c.if-n-bytes.false, line_within a.bytes.now))
+    (ap read_line (sym (c.keep_part-kept.ensures.part ∙ ap (λ m. keep_all (take a.lister.kept a.line.now) (take m a.bytes.now)) l)))
+    e.session e.ends (record { place = e.place; buffer = e.buffer }) c.after_line-2.ensures

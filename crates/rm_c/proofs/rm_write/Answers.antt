@@ -1,0 +1,26 @@
+-- `rm_write` meets its contract: the number for each answer of encode.
+use mathlib.Core.Path.{sym, ◌∙◌}
+use Rattle.code_theory.proofs.QuestionLaws.{after_yes, after_no}
+use Rattle.codec.proofs.Answers.{encode_written, encode_number_lem}
+use Rattle.rm_c.specs.CForm.{numbered, write_number}
+use Rattle.rm_c.proofs.rm_write.Goals as goal
+
+pub returns-in-Written : goal.returns-in-Written
+unfolding write_number numbered
+returns-in-Written c =
+    let d = c.encode in
+    record {
+      answer = sym (after_yes _ _ _ (encode_written c.args.q c.args.m c.args.message.now c.args.word.now d.result d.ensures.answer c.enum_told-1.given.1));
+      buffer = d.ensures.buffer;
+    }
+
+pub returns-in-Refused : goal.returns-in-Refused
+unfolding write_number numbered
+returns-in-Refused c =
+    let d = c.encode in
+    let n = c.number-1.given in
+    let x = encode_number_lem c.args.q c.args.m c.args.message.now c.args.word.now d.result d.ensures.answer n.0.0 n.1 in
+    record {
+      answer = x.0 ∙ sym (after_no _ _ _ x.1);
+      buffer = d.ensures.buffer;
+    }

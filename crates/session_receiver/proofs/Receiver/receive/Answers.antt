@@ -1,0 +1,29 @@
+-- `receive` meets its contract: the questions give the number, and decode the message.
+use mathlib.Core.Path.{◌≡◌, sym, ◌∙◌}
+use Rattle.session_receiver.specs.Receiving.{miss_refusal, received, received_session}
+use Rattle.session_receiver.proofs.CallLaws.{miss_room, receive_refused, receive_unread, receive_deliverable, receive_read}
+use Rattle.session_receiver.proofs.Receiver.receive.Goals as goal
+
+-- questions 3 and 4 are answered yes
+yes : (c : goal.Else-number-ne0) → miss_refusal c.args.self ≡ 0
+yes c = sym c.refusal-number.ensures ∙ c.if-number-ne0.false
+
+pub returns-then-number-ne0 : goal.returns-then-number-ne0
+unfolding received received_session
+returns-then-number-ne0 c = receive_refused _ _ _ _ c.refusal-number.ensures c.if-number-ne0.true
+
+pub unread-requires : goal.unread-requires
+unread-requires c =
+    miss_room _ _ c.refusal-number.ensures c.if-number-ne0.false
+
+pub deliver-requires : goal.deliver-requires
+deliver-requires c =
+    receive_deliverable _ _ _ (yes c) _ _ c.decode.ensures.answer c.decode.ensures.buffer _ c.reading-1.given.1
+
+pub returns-in-Refused : goal.returns-in-Refused
+returns-in-Refused c =
+    receive_unread _ _ _ (yes c) _ _ c.decode.ensures.answer c.decode.ensures.buffer _ c.number-1.given.1 _ c.unread.ensures.answer c.unread.ensures.session
+
+pub returns-in-Read : goal.returns-in-Read
+returns-in-Read c =
+    receive_read _ _ _ (yes c) _ _ c.decode.ensures.answer c.decode.ensures.buffer _ c.reading-1.given.1 _ _ c.deliver.ensures

@@ -1,0 +1,70 @@
+-- `soft_read` meets its contract: its ends are a no to the questions up to 10, an unsure decision, and the message.
+use mathlib.Core.Path.{refl, ap, sym, ◌∙◌}
+use native.Mathlib.Nat.{le_of_eq}
+use borrow.Author.Tests.{not-true, not-false}
+use lib.ListN.{set}
+use lib.Seq.{length-take-le}
+use Rattle.code_theory.proofs.ListLaws.{front_copied}
+use Rattle.soft_theory.specs.Decision.{is_sure, symbol}
+use Rattle.soft.specs.Answers.{soft_answered}
+use Rattle.soft.proofs.Refusals.{read_accepted}
+use Rattle.soft.proofs.ReadLaws.{one_unsure, constant_unsure, all_yes, message_fits, message_is, read_out, read_unsure, read_sure}
+use Rattle.soft.proofs.soft_read.Goals as goal
+
+pub returns-then-number-ne0 : goal.returns-then-number-ne0
+unfolding soft_answered
+returns-then-number-ne0 c = read_out _ _ _ _ _ c.sample_refusal-number.ensures c.if-number-ne0.true
+
+pub coefficients-requires : goal.coefficients-requires
+coefficients-requires c = ((read_accepted _ _ _ _ (sym c.sample_refusal-number.ensures ∙ c.if-number-ne0.false)).0, refl, refl)
+
+pub returns-then-not-coefficients : goal.returns-then-not-coefficients
+unfolding soft_answered
+returns-then-not-coefficients c =
+    read_unsure _ _ _ _ _ c.sample_refusal-number.ensures c.if-number-ne0.false (one_unsure _ _ _ (sym (not-true _ c.if-not-coefficients.true) ∙ c.coefficients.ensures.0))
+
+pub constant-last-requires : goal.constant-last-requires
+constant-last-requires c =
+    ((read_accepted _ _ _ _ (sym c.sample_refusal-number.ensures ∙ c.if-number-ne0.false)).0, c.coefficients.ensures.1 (not-false _ c.if-not-coefficients.false))
+
+pub returns-then-not-is_sure : goal.returns-then-not-is_sure
+unfolding soft_answered
+returns-then-not-is_sure c =
+    read_unsure _ _ _ _ _ c.sample_refusal-number.ensures c.if-number-ne0.false
+    (constant_unsure _ _ _ c.is_sure.result (sym (not-false _ c.if-not-coefficients.false) ∙ c.coefficients.ensures.0)
+    (c.is_sure.ensures ∙ ap is_sure c.constant-last.ensures) c.if-not-is_sure.true)
+
+pub slice_bounds-found-end : goal.slice_bounds-found-end
+slice_bounds-found-end c =
+    let (s, l) = read_accepted _ _ _ _ (sym c.sample_refusal-number.ensures ∙ c.if-number-ne0.false) in
+    message_fits _ _ _ _ _ c.symbol_of.result _ l s.high (c.coefficients.ensures.1 (not-false _ c.if-not-coefficients.false))
+
+-- TODO slice_aggregate_copy : tie.Need-slice-aggregate-copy
+-- TODO slice_aggregate_copy c =
+-- TODO     let g = c.before.before.before.before.before.before in
+-- TODO     let f = g.before.before in
+-- TODO     let e = f.before.before in
+-- TODO     let (s, l) = read_accepted _ _ _ _ (sym e.before.sample-refusal.ensures ∙ e.if1.false) in
+-- TODO     sym (length-take-le _ _ (message_fits _ _ _ _ _ c.before.symbol-of.result _ l s.high (f.coefficients.ensures.1 (not-false _ g.if2.false))))
+
+-- TODO copy_requires : tie.Need-copy-requires
+-- TODO copy_requires c κs =
+-- TODO     let g = c.before.before.before.before.before.before.before in
+-- TODO     let f = g.before.before in
+-- TODO     let e = f.before.before in
+-- TODO     let (s, l) = read_accepted _ _ _ _ (sym e.before.sample-refusal.ensures ∙ e.if1.false) in
+-- TODO     le_of_eq (length-take-le _ _ (message_fits _ _ _ _ _ c.before.before.symbol-of.result _ l s.high (f.coefficients.ensures.1 (not-false _ g.if2.false))))
+
+pub returns : goal.returns
+unfolding soft_answered
+returns c =
+    let (s, l) = read_accepted _ _ _ _ (sym c.sample_refusal-number.ensures ∙ c.if-number-ne0.false) in
+    let found = c.coefficients.ensures.1 (not-false _ c.if-not-coefficients.false) in
+    read_sure _ _ _ _ _ c.sample_refusal-number.ensures c.if-number-ne0.false
+    (all_yes _ _ _ c.is_sure.result (sym (not-false _ c.if-not-coefficients.false) ∙ c.coefficients.ensures.0)
+    (c.is_sure.ensures ∙ ap is_sure c.constant-last.ensures) c.if-not-is_sure.false)
+    _
+    (front_copied (set c.coefficients.new.1.1.1.0 0 c.symbol_of.result) c.args.message.now _ _
+    (message_fits _ _ _ _ _ c.symbol_of.result _ l s.high found) refl c.copy.ensures.1
+    ∙ message_is _ _ _ _ c.symbol_of.result _ l s.high found
+    (c.symbol_of.ensures ∙ ap symbol c.constant-last.ensures))

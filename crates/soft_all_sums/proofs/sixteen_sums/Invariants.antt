@@ -1,0 +1,13 @@
+-- `sixteen_sums` meets its contract. The loop's invariant: each pair of sums has the first j votes of its coefficient.
+use Prim.Native.Nat.{◌≤◌, ◌-◌}
+use mathlib.Core.Path.{◌≡◌}
+use Rattle.soft_vote_sums.specs.Pair.{pair}
+use Rattle.soft_all_sums.specs.Internal.{votes_of}
+use Rattle.soft_all_sums.proofs.sixteen_sums.Given as goal
+
+abbrev pub invariant-loop-j : goal.invariant-loop-j
+invariant-loop-j l =
+    (l.j ≤ 8) × (pair l.a ≡ votes_of l.re l.im l.j 0) × (pair l.b ≡ votes_of l.re l.im l.j 1) × (pair l.c ≡ votes_of l.re l.im l.j 2) × (pair l.d ≡ votes_of l.re l.im l.j 3)
+
+abbrev pub decreases-loop-j : goal.decreases-loop-j
+decreases-loop-j l = 8 - l.j
