@@ -21,25 +21,25 @@ xor_low : (a b : ℕ) → bit_xor a b % 2 ≡ (a % 2 + b % 2) % 2
 xor_low a b = omega (arith, xor_add_and a b)
 
 -- bit i of `and`, `or` and `xor`
-bit_and : (i a b : ℕ) → bit i (bit_and a b) ≡ min (bit i a) (bit i b)
+bit_and_lem : (i a b : ℕ) → bit i (bit_and a b) ≡ min (bit i a) (bit i b)
 unfolding bit
-bit_and i a b = ap (λ x. x % 2) (and_shr a b i) ∙ and_low (a / 2 ^ i) (b / 2 ^ i)
+bit_and_lem i a b = ap (λ x. x % 2) (and_shr a b i) ∙ and_low (a / 2 ^ i) (b / 2 ^ i)
 
-bit_or : (i a b : ℕ) → bit i (bit_or a b) ≡ max (bit i a) (bit i b)
+bit_or_lem : (i a b : ℕ) → bit i (bit_or a b) ≡ max (bit i a) (bit i b)
 unfolding bit
-bit_or i a b = ap (λ x. x % 2) (or_shr a b i) ∙ or_low (a / 2 ^ i) (b / 2 ^ i)
+bit_or_lem i a b = ap (λ x. x % 2) (or_shr a b i) ∙ or_low (a / 2 ^ i) (b / 2 ^ i)
 
-bit_xor : (i a b : ℕ) → bit i (bit_xor a b) ≡ (bit i a + bit i b) % 2
+bit_xor_lem : (i a b : ℕ) → bit i (bit_xor a b) ≡ (bit i a + bit i b) % 2
 unfolding bit
-bit_xor i a b = ap (λ x. x % 2) (xor_shr a b i) ∙ xor_low (a / 2 ^ i) (b / 2 ^ i)
+bit_xor_lem i a b = ap (λ x. x % 2) (xor_shr a b i) ∙ xor_low (a / 2 ^ i) (b / 2 ^ i)
 
 -- THE FULL ADDER: `parity` and `carry` compute the two bits of a sum of three bits
 pub parity_is : (a b c : ℕ) → Parity a b c (bit_xor (bit_xor a b) c)
-parity_is a b c = record { low = λ i. omega (arith, bit_xor i (bit_xor a b) c, bit_xor i a b, bit_lt i a, bit_lt i b, bit_lt i c) }
+parity_is a b c = record { low = λ i. omega (arith, bit_xor_lem i (bit_xor a b) c, bit_xor_lem i a b, bit_lt i a, bit_lt i b, bit_lt i c) }
 
 pub carry_is : (a b c : ℕ) → Carry a b c (bit_or (bit_and a b) (bit_and c (bit_xor a b)))
 carry_is a b c = record {
-  high = λ i. omega (arith, bit_or i (bit_and a b) (bit_and c (bit_xor a b)), bit_and i a b, bit_and i c (bit_xor a b), bit_xor i a b, bit_lt i a, bit_lt i b, bit_lt i c);
+  high = λ i. omega (arith, bit_or_lem i (bit_and a b) (bit_and c (bit_xor a b)), bit_and_lem i a b, bit_and_lem i c (bit_xor a b), bit_xor_lem i a b, bit_lt i a, bit_lt i b, bit_lt i c);
 }
 
 -- a shift by 4 * a bits moves lane a to lane 0

@@ -7,24 +7,26 @@ use Rattle.code_theory.proofs.QuestionLaws.{ask_on, ask_no, message_yes, message
 use Rattle.codec.specs.Internal.{size_refusal}
 use Rattle.codec.proofs.size_refusal.Goals as goal
 
-alphabet : (c : goal.Else-not-is_alphabet) → is_alphabet c.args.q ≡ true
-alphabet c = sym c.is_alphabet.ensures ∙ not-false _ c.if-not-is_alphabet.false
-
-variables : (c : goal.Else-not-is_variables) → is_variables c.args.m ≡ true
-variables c = sym c.is_variables.ensures ∙ not-false _ c.if-not-is_variables.false
-
 pub returns-then-not-is_alphabet : goal.returns-then-not-is_alphabet
 unfolding size_refusal
 returns-then-not-is_alphabet c = sym (ask_no _ _ _ (sym c.is_alphabet.ensures ∙ not-true _ c.if-not-is_alphabet.true))
 
 pub returns-then-not-is_variables : goal.returns-then-not-is_variables
 unfolding size_refusal
-returns-then-not-is_variables c = sym (ask_on _ _ _ (alphabet c) ∙ ask_no _ _ _ (sym c.is_variables.ensures ∙ not-true _ c.if-not-is_variables.true))
+returns-then-not-is_variables c =
+    let alphabet : is_alphabet c.args.q ≡ true = sym c.is_alphabet.ensures ∙ not-false _ c.if-not-is_alphabet.false in
+    sym (ask_on _ _ _ alphabet ∙ ask_no _ _ _ (sym c.is_variables.ensures ∙ not-true _ c.if-not-is_variables.true))
 
 pub returns-then-message-m : goal.returns-then-message-m
 unfolding size_refusal
-returns-then-message-m c = sym (ask_on _ _ _ (alphabet c) ∙ ask_on _ _ _ (variables c) ∙ ask_no _ _ _ (message_no _ _ c.if-message-m.true))
+returns-then-message-m c =
+    let alphabet : is_alphabet c.args.q ≡ true = sym c.is_alphabet.ensures ∙ not-false _ c.if-not-is_alphabet.false in
+    let variables : is_variables c.args.m ≡ true = sym c.is_variables.ensures ∙ not-false _ c.if-not-is_variables.false in
+    sym (ask_on _ _ _ alphabet ∙ ask_on _ _ _ variables ∙ ask_no _ _ _ (message_no _ _ c.if-message-m.true))
 
 pub returns : goal.returns
 unfolding size_refusal
-returns c = sym (ask_on _ _ _ (alphabet c) ∙ ask_on _ _ _ (variables c) ∙ ask_on _ _ _ (message_yes _ _ c.if-message-m.false))
+returns c =
+    let alphabet : is_alphabet c.args.q ≡ true = sym c.is_alphabet.ensures ∙ not-false _ c.if-not-is_alphabet.false in
+    let variables : is_variables c.args.m ≡ true = sym c.is_variables.ensures ∙ not-false _ c.if-not-is_variables.false in
+    sym (ask_on _ _ _ alphabet ∙ ask_on _ _ _ variables ∙ ask_on _ _ _ (message_yes _ _ c.if-message-m.false))

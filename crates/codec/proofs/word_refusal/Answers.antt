@@ -8,34 +8,36 @@ use Rattle.codec.specs.Internal.{size_refusal}
 use Rattle.codec.proofs.Accepted.{sized, word_later, word_never}
 use Rattle.codec.proofs.word_refusal.Goals as goal
 
--- questions 1, 2 and 5 are answered yes
-first : (c : goal.Else-number-ne0) → size_refusal c.args.q c.args.m c.args.message.now ≡ 0
-first c = sym c.size_refusal-number.ensures ∙ c.if-number-ne0.false
-
-size : (c : goal.Else-word-pow2) → is_word_size c.args.m c.args.word.now ≡ true
-size c = word_yes _ _ (c.if-word-pow2.false ∙ c.pow2.ensures)
-
 pub returns-then-number-ne0 : goal.returns-then-number-ne0
 returns-then-number-ne0 c =
     let e = c.size_refusal-number.ensures in
     e ∙ sym (word_never _ _ _ _ (λ z. c.if-number-ne0.true (e ∙ z)))
 
 pub pow2-requires : goal.pow2-requires
-pow2-requires c = (sized _ _ _ (first c)).high
+pow2-requires c =
+    let first : size_refusal c.args.q c.args.m c.args.message.now ≡ 0 = sym c.size_refusal-number.ensures ∙ c.if-number-ne0.false in
+    (sized _ _ _ first).high
 
 pub returns-then-word-pow2 : goal.returns-then-word-pow2
 returns-then-word-pow2 c =
-    sym (word_later _ _ _ _ (first c) ∙ ask_no _ _ _ (word_no _ _ (λ z. c.if-word-pow2.true (z ∙ sym c.pow2.ensures))))
+    let first : size_refusal c.args.q c.args.m c.args.message.now ≡ 0 = sym c.size_refusal-number.ensures ∙ c.if-number-ne0.false in
+    sym (word_later _ _ _ _ first ∙ ask_no _ _ _ (word_no _ _ (λ z. c.if-word-pow2.true (z ∙ sym c.pow2.ensures))))
 
 pub word_below-requires : goal.word_below-requires
 word_below-requires c =
-    let y = sized _ _ _ (first c) in
-    (y.alphabet, y.low, y.high, word_size _ _ (size c))
+    let first : size_refusal c.args.q c.args.m c.args.message.now ≡ 0 = sym c.size_refusal-number.ensures ∙ c.if-number-ne0.false in
+    let size : is_word_size c.args.m c.args.word.now ≡ true = word_yes _ _ (c.if-word-pow2.false ∙ c.pow2.ensures) in
+    let y = sized _ _ _ first in
+    (y.alphabet, y.low, y.high, word_size _ _ size)
 
 pub returns-then-not-word_below : goal.returns-then-not-word_below
 returns-then-not-word_below c =
-    sym (word_later _ _ _ _ (first c) ∙ ask_on _ _ _ (size c) ∙ ask_no _ _ _ (sym c.word_below.ensures ∙ not-true _ c.if-not-word_below.true))
+    let first : size_refusal c.args.q c.args.m c.args.message.now ≡ 0 = sym c.size_refusal-number.ensures ∙ c.if-number-ne0.false in
+    let size : is_word_size c.args.m c.args.word.now ≡ true = word_yes _ _ (c.if-word-pow2.false ∙ c.pow2.ensures) in
+    sym (word_later _ _ _ _ first ∙ ask_on _ _ _ size ∙ ask_no _ _ _ (sym c.word_below.ensures ∙ not-true _ c.if-not-word_below.true))
 
 pub returns : goal.returns
 returns c =
-    sym (word_later _ _ _ _ (first c) ∙ ask_on _ _ _ (size c) ∙ ask_on _ _ _ (sym c.word_below.ensures ∙ not-false _ c.if-not-word_below.false))
+    let first : size_refusal c.args.q c.args.m c.args.message.now ≡ 0 = sym c.size_refusal-number.ensures ∙ c.if-number-ne0.false in
+    let size : is_word_size c.args.m c.args.word.now ≡ true = word_yes _ _ (c.if-word-pow2.false ∙ c.pow2.ensures) in
+    sym (word_later _ _ _ _ first ∙ ask_on _ _ _ size ∙ ask_on _ _ _ (sym c.word_below.ensures ∙ not-false _ c.if-not-word_below.false))

@@ -9,9 +9,6 @@ use Rattle.decode_near.specs.Nearness.{nearness}
 use Rattle.decode_near.proofs.NearLaws.{near_refused, near_at}
 use Rattle.decode_near.proofs.is_near.Goals as goal
 
-alphabet : (c : goal.Else-not-is_alphabet) → is_alphabet c.args.q ≡ true
-alphabet c = sym c.is_alphabet.ensures ∙ not-false _ c.if-not-is_alphabet.false
-
 pub returns-then-not-is_alphabet : goal.returns-then-not-is_alphabet
 unfolding nearness
 returns-then-not-is_alphabet c =
@@ -19,16 +16,24 @@ returns-then-not-is_alphabet c =
 
 pub near_long-requires : goal.near_long-requires
 unfolding is_variables
-near_long-requires c = (alphabet c, refl)
+near_long-requires c =
+    let alphabet : is_alphabet c.args.q ≡ true = sym c.is_alphabet.ensures ∙ not-false _ c.if-not-is_alphabet.false in
+    (alphabet, refl)
 
 pub returns-then-m-eq6 : goal.returns-then-m-eq6
 returns-then-m-eq6 c = near_at _ c.args.m 6 _ _ _ (omega arith) c.near_long.ensures
 
 pub near_2_or_3-requires : goal.near_2_or_3-requires
-near_2_or_3-requires c = (alphabet c, omega arith)
+near_2_or_3-requires c =
+    let alphabet : is_alphabet c.args.q ≡ true = sym c.is_alphabet.ensures ∙ not-false _ c.if-not-is_alphabet.false in
+    (alphabet, omega arith)
 
 pub near_4_or_5-requires : goal.near_4_or_5-requires
-near_4_or_5-requires c = (alphabet c, omega arith, omega arith)
+near_4_or_5-requires c =
+    let alphabet : is_alphabet c.args.q ≡ true = sym c.is_alphabet.ensures ∙ not-false _ c.if-not-is_alphabet.false in
+    (alphabet, omega arith, omega arith)
 
 pub near_7_or_8-requires : goal.near_7_or_8-requires
-near_7_or_8-requires c = (alphabet c, omega arith)
+near_7_or_8-requires c =
+    let alphabet : is_alphabet c.args.q ≡ true = sym c.is_alphabet.ensures ∙ not-false _ c.if-not-is_alphabet.false in
+    (alphabet, omega arith)

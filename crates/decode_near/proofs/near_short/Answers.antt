@@ -11,38 +11,34 @@ use Rattle.decode_near.specs.Nearness.{encode_refusal, near_answer, nearness}
 use Rattle.decode_near.proofs.NearLaws.{near_refused, buffer_fits, quarters_fit, near_told}
 use Rattle.decode_near.proofs.near_short.Goals as goal
 
--- the buffer has room for the word
-room : (c : goal.Else-number-ne0) → 2 ^ c.args.m ≤ 32
-room c =
-    pow_mono {i = c.args.m} {j = 5} (omega (arith, c.requires.2))
-
--- every question is answered yes
-yes : (c : goal.Else-number-ne0) → let s = c.args in encode_refusal s.q s.m s.message.now s.word.now ≡ 0
-yes c = sym c.slices_refusal-number.ensures ∙ c.if-number-ne0.false
-
 pub returns-then-number-ne0 : goal.returns-then-number-ne0
 unfolding nearness
 returns-then-number-ne0 c = near_refused _ _ _ _ _ c.slices_refusal-number.ensures c.if-number-ne0.true
 
 pub write-requires : goal.write-requires
-write-requires c = buffer_fits _ _ _ _ (yes c) _ (room c)
+write-requires c =
+    let room : 2 ^ c.args.m ≤ 32 = pow_mono {i = c.args.m} {j = 5} (omega (arith, c.requires.2)) in
+    let yes : let s = c.args in encode_refusal s.q s.m s.message.now s.word.now ≡ 0 = sym c.slices_refusal-number.ensures ∙ c.if-number-ne0.false in
+    buffer_fits _ _ _ _ yes _ room
 
 pub overflow_sub-m : goal.overflow_sub-m
 overflow_sub-m c = (variables_bounds _ c.requires.1).0
 
 pub few_differ-requires : goal.few_differ-requires
 few_differ-requires c =
-    quarters_fit _ _ _ _ (yes c) _ c.pow2.ensures _ _ c.write.ensures (room c)
+    let room : 2 ^ c.args.m ≤ 32 = pow_mono {i = c.args.m} {j = 5} (omega (arith, c.requires.2)) in
+    let yes : let s = c.args in encode_refusal s.q s.m s.message.now s.word.now ≡ 0 = sym c.slices_refusal-number.ensures ∙ c.if-number-ne0.false in
+    quarters_fit _ _ _ _ yes _ c.pow2.ensures _ _ c.write.ensures room
 
 -- the answer, by the comparison
 told : (c : goal.After-few_differ) (b : Bool) → c.few_differ.result ≡ b → let s = c.args in accepted (cond b 1 0 ∷ []) ≡ near_answer s.q s.m s.message.now s.word.now
 told c b f =
-    near_told _ _ _ _ (yes c) _ c.pow2.ensures _ _ b _ c.write.ensures c.few_differ.ensures f
+    near_told _ _ _ _ (yes c.before.before.before.before.before.before) _ c.pow2.ensures _ _ b _ c.write.ensures c.few_differ.ensures f
 
 pub returns-then-few_differ : goal.returns-then-few_differ
 unfolding nearness
-returns-then-few_differ c = told c true c.if-few_differ.true
+returns-then-few_differ c = told c.before true c.if-few_differ.true
 
 pub returns : goal.returns
 unfolding nearness
-returns c = told c false c.if-few_differ.false
+returns c = told c.before false c.if-few_differ.false

@@ -31,12 +31,12 @@ left-e-requires c =
 
 pub further-requires : goal.further-requires
 further-requires c =
-    let (a, c0, c1, c2, c3, c4) = symbols_below c.args.q 5 c.args.word.now _ _ _ _ _ _ (only c) in
+    let (a, c0, c1, c2, c3, c4) = symbols_below c.args.q 5 c.args.word.now _ _ _ _ _ _ (only c.before) in
     (c.requires.alphabet, a, c4)
 
 pub left-f-requires : goal.left-f-requires
 left-f-requires c =
-    let l = left_asks c.args.q 5 c.args.word.now 16 _ c.candidate_32-g.result c.requires c.sixteen-y.ensures (only c) in
+    let l = left_asks c.args.q 5 c.args.word.now 16 _ c.candidate_32-g.result c.requires c.sixteen-y.ensures (only c.before.before) in
     (l.0, l.1, c.further.ensures.1, l.3, l.4, l.5, l.6)
 
 pub wrong_16-requires : goal.wrong_16-requires

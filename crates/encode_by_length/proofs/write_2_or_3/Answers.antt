@@ -15,12 +15,15 @@ write_sized-requires-in-3 c = (c.requires.0, refl)
 
 pub returns-in-2 : goal.returns-in-2
 returns-in-2 c =
-    with_variables c.args.q c.args.m 2 _ _ _ _ (omega arith) c.write_sized.ensures
+    let p = with_variables c.args.q c.args.m 2 _ _ _ _ (omega arith) c.write_sized.ensures in
+    record { answer = p.0; buffer = p.1 }
 
 pub returns-in-3 : goal.returns-in-3
 returns-in-3 c =
-    with_variables c.args.q c.args.m 3 _ _ _ _ (omega arith) c.write_sized-in-3.ensures
+    let p = with_variables c.args.q c.args.m 3 _ _ _ _ (omega arith) c.write_sized-in-3.ensures in
+    record { answer = p.0; buffer = p.1 }
 
 pub returns-in_default : goal.returns-in_default
 returns-in_default c =
-    variables_no _ c.args.m _ _ c.requires.0 (λ low high. absurd (omega arith))
+    let p = variables_no _ c.args.m _ _ c.requires.0 (λ low high. absurd (omega arith)) in
+    record { answer = p.0; buffer = p.1 }

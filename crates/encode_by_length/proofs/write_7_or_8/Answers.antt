@@ -15,12 +15,15 @@ write_sized-requires-in-8 c = (c.requires.0, refl)
 
 pub returns-in-7 : goal.returns-in-7
 returns-in-7 c =
-    with_variables c.args.q c.args.m 7 _ _ _ _ (omega arith) c.write_sized.ensures
+    let p = with_variables c.args.q c.args.m 7 _ _ _ _ (omega arith) c.write_sized.ensures in
+    record { answer = p.0; buffer = p.1 }
 
 pub returns-in-8 : goal.returns-in-8
 returns-in-8 c =
-    with_variables c.args.q c.args.m 8 _ _ _ _ (omega arith) c.write_sized-in-8.ensures
+    let p = with_variables c.args.q c.args.m 8 _ _ _ _ (omega arith) c.write_sized-in-8.ensures in
+    record { answer = p.0; buffer = p.1 }
 
 pub returns-in_default : goal.returns-in_default
 returns-in_default c =
-    variables_no _ c.args.m _ _ c.requires.0 (λ low high. absurd (omega arith))
+    let p = variables_no _ c.args.m _ _ c.requires.0 (λ low high. absurd (omega arith)) in
+    record { answer = p.0; buffer = p.1 }

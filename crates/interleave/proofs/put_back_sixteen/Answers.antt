@@ -8,27 +8,26 @@ use Rattle.interleave_theory.proofs.RefusalLaws.{refused_14}
 use Rattle.interleave_theory.proofs.GroupLaws.{group_yes, group_limit, sixteen_places, put_back_kept, put_back_checked, checked_as}
 use Rattle.interleave.proofs.put_back_sixteen.Goals as goal
 
--- what the yes to question 14 says
-group : (c : goal.Else-not-is_group) → is_group c.args.count ≡ true
-group c = sym c.is_group.ensures ∙ not-false _ c.if-not-is_group.false
-
 pub returns-then-count-eq2 : goal.returns-then-count-eq2
 returns-then-count-eq2 c =
     let literal : 2 ≡ c.args.count = omega arith in
-    put_back_checked _ 4 c.args.count _ _ c.requires sixteen_places (group_yes _ (omega arith) (omega arith)) _ _
-    (checked_as _ 16 16 2 _ _ _ _ _ refl literal c.small.ensures)
+    let p = put_back_checked _ 4 c.args.count _ _ c.requires sixteen_places (group_yes _ (omega arith) (omega arith)) _ _
+    (checked_as _ 16 16 2 _ _ _ _ _ refl literal c.small.ensures) in
+    record { number = p.0; buffer = p.1 }
 
 pub returns-then-count-eq4 : goal.returns-then-count-eq4
 returns-then-count-eq4 c =
     let literal : 4 ≡ c.args.count = omega arith in
-    put_back_checked _ 4 c.args.count _ _ c.requires sixteen_places (group_yes _ (omega arith) (omega arith)) _ _
-    (checked_as _ 16 16 4 _ _ _ _ _ refl literal c.small-then-count-eq4.ensures)
+    let p = put_back_checked _ 4 c.args.count _ _ c.requires sixteen_places (group_yes _ (omega arith) (omega arith)) _ _
+    (checked_as _ 16 16 4 _ _ _ _ _ refl literal c.small-then-count-eq4.ensures) in
+    record { number = p.0; buffer = p.1 }
 
 pub returns-then-count-eq16 : goal.returns-then-count-eq16
 returns-then-count-eq16 c =
     let literal : 16 ≡ c.args.count = omega arith in
-    put_back_checked _ 4 c.args.count _ _ c.requires sixteen_places (group_yes _ (omega arith) (omega arith)) _ _
-    (checked_as _ 16 16 16 _ _ _ _ _ refl literal c.square.ensures)
+    let p = put_back_checked _ 4 c.args.count _ _ c.requires sixteen_places (group_yes _ (omega arith) (omega arith)) _ _
+    (checked_as _ 16 16 16 _ _ _ _ _ refl literal c.square.ensures) in
+    record { number = p.0; buffer = p.1 }
 
 pub returns-then-not-is_group : goal.returns-then-not-is_group
 returns-then-not-is_group c =
@@ -39,7 +38,12 @@ returns-then-not-is_group c =
     }
 
 pub any_size-requires : goal.any_size-requires
-any_size-requires c = (c.requires, omega (arith, group_limit 4 _ sixteen_places (group c)))
+any_size-requires c =
+    let group : is_group c.args.count ≡ true = sym c.is_group.ensures ∙ not-false _ c.if-not-is_group.false in
+    (c.requires, omega (arith, group_limit 4 _ sixteen_places group))
 
 pub returns : goal.returns
-returns c = put_back_checked _ 4 _ _ _ c.requires sixteen_places (group c) _ _ c.any_size.ensures
+returns c =
+    let group : is_group c.args.count ≡ true = sym c.is_group.ensures ∙ not-false _ c.if-not-is_group.false in
+    let p = put_back_checked _ 4 _ _ _ c.requires sixteen_places group _ _ c.any_size.ensures in
+    record { number = p.0; buffer = p.1 }

@@ -12,16 +12,6 @@ use Rattle.interleave_theory.proofs.RefusalLaws.{refused_1, refused_2, refused_1
 use Rattle.interleave_theory.proofs.GroupLaws.{group_limit, rearrange_kept, rearrange_checked, rearrange_as, checked_as}
 use Rattle.interleave.proofs.rearrange.Goals as goal
 
--- what each yes says
-alphabet : (c : goal.Else-not-is_alphabet) → is_alphabet c.args.q ≡ true
-alphabet c = sym c.is_alphabet.ensures ∙ not-false _ c.if-not-is_alphabet.false
-
-variables : (c : goal.Else-not-is_variables) → is_variables c.args.m ≡ true
-variables c = sym c.is_variables.ensures ∙ not-false _ c.if-not-is_variables.false
-
-group : (c : goal.Else-not-is_group) → is_group c.args.count ≡ true
-group c = sym c.is_group.ensures ∙ not-false _ c.if-not-is_group.false
-
 pub returns-then-not-is_alphabet : goal.returns-then-not-is_alphabet
 returns-then-not-is_alphabet c =
     let n = refused_1 _ _ _ _ _ (sym c.is_alphabet.ensures ∙ not-true _ c.if-not-is_alphabet.true) in
@@ -31,14 +21,19 @@ returns-then-not-is_alphabet c =
     }
 
 pub rearrange_sixteen-requires : goal.rearrange_sixteen-requires
-rearrange_sixteen-requires c = alphabet c
+rearrange_sixteen-requires c =
+    let alphabet : is_alphabet c.args.q ≡ true = sym c.is_alphabet.ensures ∙ not-false _ c.if-not-is_alphabet.false in
+    alphabet
 
 pub returns-then-m-eq4 : goal.returns-then-m-eq4
-returns-then-m-eq4 c = rearrange_as _ 4 c.args.m _ _ _ _ _ (omega arith) c.rearrange_sixteen.ensures
+returns-then-m-eq4 c =
+    let p = rearrange_as _ 4 c.args.m _ _ _ _ _ (omega arith) c.rearrange_sixteen.ensures in
+    record { number = p.0; buffer = p.1 }
 
 pub returns-then-not-is_variables : goal.returns-then-not-is_variables
 returns-then-not-is_variables c =
-    let n = refused_2 _ _ _ _ _ (alphabet c) (sym c.is_variables.ensures ∙ not-true _ c.if-not-is_variables.true) in
+    let alphabet : is_alphabet c.args.q ≡ true = sym c.is_alphabet.ensures ∙ not-false _ c.if-not-is_alphabet.false in
+    let n = refused_2 _ _ _ _ _ alphabet (sym c.is_variables.ensures ∙ not-true _ c.if-not-is_variables.true) in
     record {
       number = n;
       buffer = rearrange_kept _ _ _ _ _ 2 n (λ z. omega (arith, z));
@@ -46,22 +41,33 @@ returns-then-not-is_variables c =
 
 pub returns-then-not-is_group : goal.returns-then-not-is_group
 returns-then-not-is_group c =
-    let n = refused_14 _ _ _ _ _ (alphabet c) (variables c) (sym c.is_group.ensures ∙ not-true _ c.if-not-is_group.true) in
+    let alphabet : is_alphabet c.args.q ≡ true = sym c.is_alphabet.ensures ∙ not-false _ c.if-not-is_alphabet.false in
+    let variables : is_variables c.args.m ≡ true = sym c.is_variables.ensures ∙ not-false _ c.if-not-is_variables.false in
+    let n = refused_14 _ _ _ _ _ alphabet variables (sym c.is_group.ensures ∙ not-true _ c.if-not-is_group.true) in
     record {
       number = n;
       buffer = rearrange_kept _ _ _ _ _ 14 n (λ z. omega (arith, z));
     }
 
 pub pow2-requires : goal.pow2-requires
-pow2-requires c = (variables_bounds _ (variables c)).1
+pow2-requires c =
+    let variables : is_variables c.args.m ≡ true = sym c.is_variables.ensures ∙ not-false _ c.if-not-is_variables.false in
+    (variables_bounds _ variables).1
 
 pub any_size-requires : goal.any_size-requires
 any_size-requires c =
+    let alphabet : is_alphabet c.args.q ≡ true = sym c.is_alphabet.ensures ∙ not-false _ c.if-not-is_alphabet.false in
+    let variables : is_variables c.args.m ≡ true = sym c.is_variables.ensures ∙ not-false _ c.if-not-is_variables.false in
+    let group : is_group c.args.count ≡ true = sym c.is_group.ensures ∙ not-false _ c.if-not-is_group.false in
     let s = c.args in
     let e : s.count * c.pow2.result ≡ s.count * 2 ^ s.m = ap (λ k. s.count * k) c.pow2.ensures in
-    (alphabet c, omega (arith, e, group_limit s.m s.count (variables c) (group c), mul_comm s.count c.pow2.result))
+    (alphabet, omega (arith, e, group_limit s.m s.count variables group, mul_comm s.count c.pow2.result))
 
 pub returns : goal.returns
 returns c =
-    rearrange_checked _ _ _ _ _ (alphabet c) (variables c) (group c) _ _
-    (checked_as _ _ _ _ _ _ _ _ _ refl c.pow2.ensures c.any_size.ensures)
+    let alphabet : is_alphabet c.args.q ≡ true = sym c.is_alphabet.ensures ∙ not-false _ c.if-not-is_alphabet.false in
+    let variables : is_variables c.args.m ≡ true = sym c.is_variables.ensures ∙ not-false _ c.if-not-is_variables.false in
+    let group : is_group c.args.count ≡ true = sym c.is_group.ensures ∙ not-false _ c.if-not-is_group.false in
+    let p = rearrange_checked _ _ _ _ _ alphabet variables group _ _
+    (checked_as _ _ _ _ _ _ _ _ _ refl c.pow2.ensures c.any_size.ensures) in
+    record { number = p.0; buffer = p.1 }

@@ -15,20 +15,23 @@ pub returns-in-Slot : goal.returns-in-Slot
 unfolding line_of
 returns-in-Slot c =
     let line = c.args.line.now in
-    relisted c.args.receiver _ _ _ _ c.args.out.now c.args.at _ _ (ap (λ x. line_of x line) (sym c.enum_told-1.given.1) ∙ c.kind_of.ensures)
-    c.list_slot.ensures
+    let p = relisted c.args.receiver _ _ _ _ c.args.out.now c.args.at _ _ (ap (λ x. line_of x line) (sym c.enum_told-1.given.1) ∙ c.kind_of.ensures)
+    c.list_slot.ensures in
+    record { session = p.0; ends = p.1; place = p.2; buffer = p.3 }
 
 pub returns-in-Miss : goal.returns-in-Miss
 unfolding line_of
 returns-in-Miss c =
     let line = c.args.line.now in
-    relisted c.args.receiver _ _ _ _ c.args.out.now c.args.at _ _ (ap (λ x. line_of x line) (sym c.enum_told-in-Miss-1.given.1) ∙ c.kind_of.ensures)
-    c.List-miss.ensures
+    let p = relisted c.args.receiver _ _ _ _ c.args.out.now c.args.at _ _ (ap (λ x. line_of x line) (sym c.enum_told-in-Miss-1.given.1) ∙ c.kind_of.ensures)
+    c.List-miss.ensures in
+    record { session = p.0; ends = p.1; place = p.2; buffer = p.3 }
 
 pub returns-in-Bad : goal.returns-in-Bad
 unfolding line_of
 returns-in-Bad c =
     let line = c.args.line.now in
     let w = c.put_bad-end.ensures in
-    relisted c.args.receiver _ _ _ _ c.args.out.now c.args.at _ _ (ap (λ x. line_of x line) (sym c.enum_told-in-Bad-1.given.1) ∙ c.kind_of.ensures)
-    (listed_as c.args.receiver _ _ _ _ c.args.out.now c.args.at _ _ (told_bad c.args.receiver) (record { place = w.place; buffer = w.buffer }))
+    let p = relisted c.args.receiver _ _ _ _ c.args.out.now c.args.at _ _ (ap (λ x. line_of x line) (sym c.enum_told-in-Bad-1.given.1) ∙ c.kind_of.ensures)
+    (listed_as c.args.receiver _ _ _ _ c.args.out.now c.args.at _ _ (told_bad c.args.receiver) (record { place = w.place; buffer = w.buffer })) in
+    record { session = p.0; ends = p.1; place = p.2; buffer = p.3 }

@@ -21,22 +21,25 @@ pub returns-in-Read : goal.returns-in-Read
 returns-in-Read c =
     let e = c.receive.ensures in
     let w = c.put_reading-end.ensures in
-    listed_as c.args.receiver _ _ _ _ c.args.out.now c.args.at _ _
+    let p = listed_as c.args.receiver _ _ _ _ c.args.out.now c.args.at _ _
     (told_read c.args.receiver _ _ _ c.requires.1 e.answer e.session _ _ c.next-1.given.1 _ _ e.buffer c.rate_of-rate.ensures)
-    (record { place = w.place; buffer = w.buffer })
+    (record { place = w.place; buffer = w.buffer }) in
+    record { session = p.0; ends = p.1; place = p.2; buffer = p.3 }
 
 pub returns-in-Doubtful : goal.returns-in-Doubtful
 returns-in-Doubtful c =
     let e = c.receive.ensures in
     let w = c.put_doubtful-end.ensures in
-    listed_as c.args.receiver _ _ _ _ c.args.out.now c.args.at _ _
+    let p = listed_as c.args.receiver _ _ _ _ c.args.out.now c.args.at _ _
     (told_doubtful c.args.receiver _ _ _ c.requires.1 e.answer e.session _ c.next-in-Doubtful-1.given.1)
-    (written_as (ap doubtful_text c.slot_time.ensures) (record { place = w.place; buffer = w.buffer }))
+    (written_as (ap doubtful_text c.slot_time.ensures) (record { place = w.place; buffer = w.buffer })) in
+    record { session = p.0; ends = p.1; place = p.2; buffer = p.3 }
 
 pub returns-in-Refused : goal.returns-in-Refused
 returns-in-Refused c =
     let e = c.receive.ensures in
     let w = c.put_over-end.ensures in
-    listed_as c.args.receiver _ _ _ _ c.args.out.now c.args.at _ _
+    let p = listed_as c.args.receiver _ _ _ _ c.args.out.now c.args.at _ _
     (told_over c.args.receiver _ _ _ c.requires.1 e.answer e.session _ c.enum_told-1.given.1)
-    (record { place = w.place; buffer = w.buffer })
+    (record { place = w.place; buffer = w.buffer }) in
+    record { session = p.0; ends = p.1; place = p.2; buffer = p.3 }

@@ -14,8 +14,8 @@ pub loop-i-preserved : goal.loop-i-preserved
 loop-i-preserved c = (
       omega arith,
       refl,
-      range_next _ _ c.loop-i.i c.loop-i.all c.in_range_lem.result c.in_range-in-loop-i.result c.part.result c.part-in-loop-i.result
-          c.loop-i.invariant.2 c.part.ensures c.in_range_lem.ensures c.part-in-loop-i.ensures c.in_range-in-loop-i.ensures,
+      range_next _ _ c.loop-i.i c.loop-i.all c.in_range.result c.in_range-in-loop-i.result c.part.result c.part-in-loop-i.result
+          c.loop-i.invariant.2 c.part.ensures c.in_range.ensures c.part-in-loop-i.ensures c.in_range-in-loop-i.ensures,
     )
 
 pub returns : goal.returns

@@ -4,6 +4,7 @@ use native.Mathlib.Omega.{arith}
 use mathlib.Core.Bool.{true, false≢true}
 use Rattle.soft_all_sums.proofs.RowLaws.{held_is}
 use Rattle.soft.proofs.ReadLaws.{tested, learnt, found_none, found_next, found_all, sure_none, sure_next, sure_stop, sure_all}
+use borrow.Author.Tests.{not-true, not-false}
 use Rattle.soft.proofs.decide_all.Goals as goal
 
 pub loop-k-init : goal.loop-k-init

@@ -2,6 +2,7 @@
 use mathlib.Core.Path.{sym, ◌∙◌}
 use mathlib.Core.Bool.{true, false}
 use Rattle.soft.proofs.Refusals.{sizes, slice_no, slice_range}
+use borrow.Author.Tests.{not-true, not-false}
 use Rattle.soft.proofs.slice_refusal.Goals as goal
 
 pub returns-then-not-are_sized : goal.returns-then-not-are_sized

@@ -13,7 +13,9 @@ use Rattle.soft.proofs.soft_read.Goals as goal
 
 pub returns-then-number-ne0 : goal.returns-then-number-ne0
 unfolding soft_answered
-returns-then-number-ne0 c = read_out _ _ _ _ _ c.sample_refusal-number.ensures c.if-number-ne0.true
+returns-then-number-ne0 c =
+    let p = read_out _ _ _ _ _ c.sample_refusal-number.ensures c.if-number-ne0.true in
+    record { fact_1 = p.0; fact_2 = p.1 }
 
 pub coefficients-requires : goal.coefficients-requires
 coefficients-requires c = ((read_accepted _ _ _ _ (sym c.sample_refusal-number.ensures ∙ c.if-number-ne0.false)).0, refl, refl)
@@ -21,23 +23,25 @@ coefficients-requires c = ((read_accepted _ _ _ _ (sym c.sample_refusal-number.e
 pub returns-then-not-coefficients : goal.returns-then-not-coefficients
 unfolding soft_answered
 returns-then-not-coefficients c =
-    read_unsure _ _ _ _ _ c.sample_refusal-number.ensures c.if-number-ne0.false (one_unsure _ _ _ (sym (not-true _ c.if-not-coefficients.true) ∙ c.coefficients.ensures.0))
+    let p = read_unsure _ _ _ _ _ c.sample_refusal-number.ensures c.if-number-ne0.false (one_unsure _ _ _ (sym c.if-not-coefficients.true ∙ c.coefficients.ensures.0)) in
+    record { fact_1 = p.0; fact_2 = p.1 }
 
 pub constant-last-requires : goal.constant-last-requires
 constant-last-requires c =
-    ((read_accepted _ _ _ _ (sym c.sample_refusal-number.ensures ∙ c.if-number-ne0.false)).0, c.coefficients.ensures.1 (not-false _ c.if-not-coefficients.false))
+    ((read_accepted _ _ _ _ (sym c.sample_refusal-number.ensures ∙ c.if-number-ne0.false)).0, c.coefficients.ensures.1 c.if-not-coefficients.false)
 
 pub returns-then-not-is_sure : goal.returns-then-not-is_sure
 unfolding soft_answered
 returns-then-not-is_sure c =
-    read_unsure _ _ _ _ _ c.sample_refusal-number.ensures c.if-number-ne0.false
-    (constant_unsure _ _ _ c.is_sure.result (sym (not-false _ c.if-not-coefficients.false) ∙ c.coefficients.ensures.0)
-    (c.is_sure.ensures ∙ ap is_sure c.constant-last.ensures) c.if-not-is_sure.true)
+    let p = read_unsure _ _ _ _ _ c.sample_refusal-number.ensures c.if-number-ne0.false
+    (constant_unsure _ _ _ c.is_sure.result (sym c.if-not-coefficients.false ∙ c.coefficients.ensures.0)
+    (c.is_sure.ensures ∙ ap is_sure c.constant-last.ensures) c.if-not-is_sure.true) in
+    record { fact_1 = p.0; fact_2 = p.1 }
 
 pub slice_bounds-found-end : goal.slice_bounds-found-end
 slice_bounds-found-end c =
     let (s, l) = read_accepted _ _ _ _ (sym c.sample_refusal-number.ensures ∙ c.if-number-ne0.false) in
-    message_fits _ _ _ _ _ c.symbol_of.result _ l s.high (c.coefficients.ensures.1 (not-false _ c.if-not-coefficients.false))
+    message_fits _ _ _ _ _ c.symbol_of.result _ l s.high (c.coefficients.ensures.1 c.if-not-coefficients.false)
 
 -- TODO slice_aggregate_copy : tie.Need-slice-aggregate-copy
 -- TODO slice_aggregate_copy c =
@@ -59,12 +63,13 @@ pub returns : goal.returns
 unfolding soft_answered
 returns c =
     let (s, l) = read_accepted _ _ _ _ (sym c.sample_refusal-number.ensures ∙ c.if-number-ne0.false) in
-    let found = c.coefficients.ensures.1 (not-false _ c.if-not-coefficients.false) in
-    read_sure _ _ _ _ _ c.sample_refusal-number.ensures c.if-number-ne0.false
-    (all_yes _ _ _ c.is_sure.result (sym (not-false _ c.if-not-coefficients.false) ∙ c.coefficients.ensures.0)
+    let found = c.coefficients.ensures.1 c.if-not-coefficients.false in
+    let p = read_sure _ _ _ _ _ c.sample_refusal-number.ensures c.if-number-ne0.false
+    (all_yes _ _ _ c.is_sure.result (sym c.if-not-coefficients.false ∙ c.coefficients.ensures.0)
     (c.is_sure.ensures ∙ ap is_sure c.constant-last.ensures) c.if-not-is_sure.false)
     _
     (front_copied (set c.coefficients.new.1.1.1.0 0 c.symbol_of.result) c.args.message.now _ _
     (message_fits _ _ _ _ _ c.symbol_of.result _ l s.high found) refl c.copy.ensures.1
     ∙ message_is _ _ _ _ c.symbol_of.result _ l s.high found
-    (c.symbol_of.ensures ∙ ap symbol c.constant-last.ensures))
+    (c.symbol_of.ensures ∙ ap symbol c.constant-last.ensures)) in
+    record { fact_1 = p.0; fact_2 = p.1 }

@@ -16,4 +16,4 @@ vote_at-requires c =
 pub returns : goal.returns
 unfolding votes_of
 returns c =
-    vote_next _ _ c.args.k c.args.j _ _ _ c.requires.3 c.vote_at_lem.ensures c.add.ensures
+    vote_next _ _ c.args.k c.args.j _ _ _ c.requires.3 c.vote_at.ensures c.add.ensures

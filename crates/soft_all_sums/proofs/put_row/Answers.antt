@@ -33,12 +33,12 @@ bounds-rows-at c =
 
 pub bounds-rows-at-in-loop-x : goal.bounds-rows-at-in-loop-x
 bounds-rows-at-in-loop-x c =
-    omega (arith, length-set c.loop-x.rows (16 * c.args.k + c.loop-x.x) c.vote_at_lem.result.re, c.loop-x.invariant.1.size, c.requires.0.high, c.requires.2)
+    omega (arith, length-set c.loop-x.rows (16 * c.args.k + c.loop-x.x) c.vote_at-z.result.re, c.loop-x.invariant.1.size, c.requires.0.high, c.requires.2)
 
 pub loop-x-preserved : goal.loop-x-preserved
 unfolding pair
 loop-x-preserved c =
-    (omega arith, put_next _ _ _ _ _ _ c.loop-x.x _ _ (omega (arith, c.requires.0.high, c.requires.2)) (omega arith) c.loop-x.invariant.1 c.vote_at_lem.ensures)
+    (omega arith, put_next _ _ _ _ _ _ c.loop-x.x _ _ (omega (arith, c.requires.0.high, c.requires.2)) (omega arith) c.loop-x.invariant.1 c.vote_at-z.ensures)
 
 pub shape_of-rows : goal.shape_of-rows
 shape_of-rows c = c.loop-x.invariant.1.size ∙ sym c.requires.4

@@ -5,28 +5,35 @@ use lib.ListN.{length}
 use Rattle.soft_vote_sums.proofs.Steps.{partner_room, sample_is, vote_is}
 use Rattle.soft_vote_sums.proofs.vote_at.Goals as goal
 
--- the index and its partner are within both slices
-room : (c : goal.After-pow2-step) → let s = c.args in let i = s.i + c.pow2-step.result in (i < length s.re.now) × (i < length s.im.now) × (i < 256)
-room c =
-    partner_room _ _ c.args.j _ _ c.requires.0 c.requires.1 c.requires.2 _ _ c.requires.3 c.pow2-step.ensures
-
 pub overflow_add-i : goal.overflow_add-i
-overflow_add-i c = omega (arith, room c)
+overflow_add-i c =
+    let room : let s = c.args in let i = s.i + c.pow2-step.result in (i < length s.re.now) × (i < length s.im.now) × (i < 256) = partner_room _ _ c.args.j _ _ c.requires.0 c.requires.1 c.requires.2 _ _ c.requires.3 c.pow2-step.ensures in
+    omega (arith, room)
 
 pub part-requires : goal.part-requires
-part-requires c = omega (arith, room c)
+part-requires c =
+    let room : let s = c.args in let i = s.i + c.pow2-step.result in (i < length s.re.now) × (i < length s.im.now) × (i < 256) = partner_room _ _ c.args.j _ _ c.requires.0 c.requires.1 c.requires.2 _ _ c.requires.3 c.pow2-step.ensures in
+    omega (arith, room)
 
 pub overflow_add-i-2 : goal.overflow_add-i-2
-overflow_add-i-2 c = omega (arith, room c)
+overflow_add-i-2 c =
+    let room : let s = c.args in let i = s.i + c.pow2-step.result in (i < length s.re.now) × (i < length s.im.now) × (i < 256) = partner_room _ _ c.args.j _ _ c.requires.0 c.requires.1 c.requires.2 _ _ c.requires.3 c.pow2-step.ensures in
+    omega (arith, room)
 
 pub part-requires-2 : goal.part-requires-2
-part-requires-2 c = omega (arith, room c)
+part-requires-2 c =
+    let room : let s = c.args in let i = s.i + c.pow2-step.result in (i < length s.re.now) × (i < length s.im.now) × (i < 256) = partner_room _ _ c.args.j _ _ c.requires.0 c.requires.1 c.requires.2 _ _ c.requires.3 c.pow2-step.ensures in
+    omega (arith, room)
 
 pub part-requires-3 : goal.part-requires-3
-part-requires-3 c = omega (arith, room c)
+part-requires-3 c =
+    let room : let s = c.args in let i = s.i + c.pow2-step.result in (i < length s.re.now) × (i < length s.im.now) × (i < 256) = partner_room _ _ c.args.j _ _ c.requires.0 c.requires.1 c.requires.2 _ _ c.requires.3 c.pow2-step.ensures in
+    omega (arith, room)
 
 pub part-requires-4 : goal.part-requires-4
-part-requires-4 c = omega (arith, room c)
+part-requires-4 c =
+    let room : let s = c.args in let i = s.i + c.pow2-step.result in (i < length s.re.now) × (i < length s.im.now) × (i < 256) = partner_room _ _ c.args.j _ _ c.requires.0 c.requires.1 c.requires.2 _ _ c.requires.3 c.pow2-step.ensures in
+    omega (arith, room)
 
 pub returns : goal.returns
 returns c =

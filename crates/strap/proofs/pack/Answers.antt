@@ -18,30 +18,38 @@ returns-then-number-ne0 c =
       buffer = sym (after_no (pack_refusal a.message.now a.zone) _ a.message.now (λ z. c.if-number-ne0.true (e ∙ z)));
     }
 
-five : (c : goal.Else-number-ne0) → length c.args.message.now ≡ 5
-five c = (packable _ _ (sym c.pack_refusal-number.ensures ∙ c.if-number-ne0.false)).0
-
 pub bounds-message-0 : goal.bounds-message-0
-bounds-message-0 c = omega (arith, five c)
+bounds-message-0 c =
+    let five : length c.args.message.now ≡ 5 = (packable _ _ (sym c.pack_refusal-number.ensures ∙ c.if-number-ne0.false)).0 in
+    omega (arith, five)
 
 pub bounds-message-1 : goal.bounds-message-1
-bounds-message-1 c = simp length-set (omega (arith, five c))
+bounds-message-1 c =
+    let five : length c.args.message.now ≡ 5 = (packable _ _ (sym c.pack_refusal-number.ensures ∙ c.if-number-ne0.false)).0 in
+    simp length-set (omega (arith, five))
 
 pub bounds-message-2 : goal.bounds-message-2
-bounds-message-2 c = simp length-set (omega (arith, five c))
+bounds-message-2 c =
+    let five : length c.args.message.now ≡ 5 = (packable _ _ (sym c.pack_refusal-number.ensures ∙ c.if-number-ne0.false)).0 in
+    simp length-set (omega (arith, five))
 
 pub bounds-message-3 : goal.bounds-message-3
-bounds-message-3 c = simp length-set (omega (arith, five c))
+bounds-message-3 c =
+    let five : length c.args.message.now ≡ 5 = (packable _ _ (sym c.pack_refusal-number.ensures ∙ c.if-number-ne0.false)).0 in
+    simp length-set (omega (arith, five))
 
 pub bounds-message-4 : goal.bounds-message-4
-bounds-message-4 c = simp length-set (omega (arith, five c))
+bounds-message-4 c =
+    let five : length c.args.message.now ≡ 5 = (packable _ _ (sym c.pack_refusal-number.ensures ∙ c.if-number-ne0.false)).0 in
+    simp length-set (omega (arith, five))
 
 pub returns : goal.returns
 unfolding pack_answer pack_message packed
 returns c =
+    let five : length c.args.message.now ≡ 5 = (packable _ _ (sym c.pack_refusal-number.ensures ∙ c.if-number-ne0.false)).0 in
     let a = c.args in
     let n = sym c.pack_refusal-number.ensures ∙ c.if-number-ne0.false in
     record {
       answer = sym (answer_yes (pack_refusal a.message.now a.zone) _ n);
-      buffer = stored a.message.now a.rate a.zone (five c) ∙ sym (after_yes (pack_refusal a.message.now a.zone) _ _ n);
+      buffer = stored a.message.now a.rate a.zone five ∙ sym (after_yes (pack_refusal a.message.now a.zone) _ _ n);
     }

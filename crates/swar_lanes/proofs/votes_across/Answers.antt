@@ -5,24 +5,26 @@ use Rattle.swar_lanes.proofs.BallotLaws.{number_below, across_ballot}
 use Rattle.swar_lanes.proofs.LaneLaws.{less_below}
 use Rattle.swar_lanes.proofs.votes_across.Goals as goal
 
--- the partners stand in one of the sixteen numbers
-next : (c : goal.After-pow2) → c.nth_clear-i.result + c.pow2.result < 16
-next c =
-    omega (arith, c.requires.0.partner c.requires.1, c.nth_clear-i.ensures, c.pow2.ensures)
-
 pub overflow_add-i : goal.overflow_add-i
-overflow_add-i c = omega (arith, next c)
+overflow_add-i c =
+    let next : c.nth_clear-i.result + c.pow2.result < 16 = omega (arith, c.requires.0.partner c.requires.1, c.nth_clear-i.ensures, c.pow2.ensures) in
+    omega (arith, next)
 
 pub number-requires : goal.number-requires
-number-requires c = next c
+number-requires c =
+    let next : c.nth_clear-i.result + c.pow2.result < 16 = omega (arith, c.requires.0.partner c.requires.1, c.nth_clear-i.ensures, c.pow2.ensures) in
+    next
 
 pub number-requires-2 : goal.number-requires-2
-number-requires-2 c = omega (arith, next c)
+number-requires-2 c =
+    let next : c.nth_clear-i.result + c.pow2.result < 16 = omega (arith, c.requires.0.partner c.requires.1, c.nth_clear-i.ensures, c.pow2.ensures) in
+    omega (arith, next)
 
 pub less-requires : goal.less-requires
 less-requires c =
+    let next : c.nth_clear-i.result + c.pow2.result < 16 = omega (arith, c.requires.0.partner c.requires.1, c.nth_clear-i.ensures, c.pow2.ensures) in
     let i = c.nth_clear-i.result in
-    let n = next c in (
+    let n = next in (
       c.requires.0.alphabet,
       number_below c.args.q c.args.x.now _ _ c.requires.0.symbols n c.number.ensures,
       number_below c.args.q c.args.x.now i _ c.requires.0.symbols (omega arith) c.number-2.ensures,

@@ -8,4 +8,4 @@ less-requires c = search (rules, partners_below)
 
 pub returns : goal.returns
 returns c =
-    votes_in_is c.args.q c.args.k c.args.x _ _ _ _ c.lane_bit_lem.ensures.0 c.partners.ensures c.clear.ensures c.less.ensures
+    votes_in_is c.args.q c.args.k c.args.x _ _ _ _ c.lane_bit.ensures.0 c.partners.ensures c.clear.ensures c.less.ensures

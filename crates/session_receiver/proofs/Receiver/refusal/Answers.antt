@@ -6,17 +6,18 @@ use Rattle.code_theory.proofs.QuestionLaws.{ask_on, ask_no}
 use Rattle.session_receiver.specs.Receiving.{sound_receiver, miss_refusal}
 use Rattle.session_receiver.proofs.Receiver.refusal.Goals as goal
 
-sound : (c : goal.Else-not-is_sound) → sound_receiver c.args.self ≡ true
-sound c = sym c.is_sound.ensures ∙ not-false _ c.if-not-is_sound.false
-
 pub returns-then-not-is_sound : goal.returns-then-not-is_sound
 unfolding miss_refusal
 returns-then-not-is_sound c = sym (ask_no _ _ _ (sym c.is_sound.ensures ∙ not-true _ c.if-not-is_sound.true))
 
 pub returns-then-self-ge-SLOTS : goal.returns-then-self-ge-SLOTS
 unfolding miss_refusal
-returns-then-self-ge-SLOTS c = sym (ask_on _ _ _ (sound c) ∙ ask_no _ _ _ (le-ltb _ _ c.if-self-ge-SLOTS.true))
+returns-then-self-ge-SLOTS c =
+    let sound : sound_receiver c.args.self ≡ true = sym c.is_sound.ensures ∙ not-false _ c.if-not-is_sound.false in
+    sym (ask_on _ _ _ sound ∙ ask_no _ _ _ (le-ltb _ _ c.if-self-ge-SLOTS.true))
 
 pub returns : goal.returns
 unfolding miss_refusal
-returns c = sym (ask_on _ _ _ (sound c) ∙ ask_on _ _ _ (lt-ltb _ _ c.if-self-ge-SLOTS.false))
+returns c =
+    let sound : sound_receiver c.args.self ≡ true = sym c.is_sound.ensures ∙ not-false _ c.if-not-is_sound.false in
+    sym (ask_on _ _ _ sound ∙ ask_on _ _ _ (lt-ltb _ _ c.if-self-ge-SLOTS.false))

@@ -8,41 +8,44 @@ use Rattle.session_slot.specs.Slot.{slots}
 use Rattle.session_sender.specs.Sending.{sound_sender}
 use Rattle.session_sender.proofs.Sender.is_sound.Goals as goal
 
-alphabet : (c : goal.Then-is_alphabet) → is_alphabet c.args.self.q ≡ true
-alphabet c = sym c.is_alphabet.ensures ∙ c.if-is_alphabet.true
-
-variables : (c : goal.Then-is_variables) → is_variables c.args.self.m ≡ true
-variables c = sym c.is_variables.ensures ∙ c.if-is_variables.true
-
-last : (c : goal.Then-self) → let s = c.args.self in ltb s.last s.q ≡ true
-last c = lt-ltb _ _ c.if-self.true
-
-few : (c : goal.Then-self-le-SLOTS) → leb c.args.self.used slots ≡ true
-few c = le-leb _ _ c.if-self-le-SLOTS.true
-
 pub returns-then-self-gt0 : goal.returns-then-self-gt0
 unfolding sound_sender
 returns-then-self-gt0 c =
-    simp (alphabet c, variables c, last c, few c, lt-ltb _ _ c.if-self-gt0.true)
+    let alphabet : is_alphabet c.args.self.q ≡ true = sym c.is_alphabet.ensures ∙ c.if-is_alphabet.true in
+    let variables : is_variables c.args.self.m ≡ true = sym c.is_variables.ensures ∙ c.if-is_variables.true in
+    let last : let s = c.args.self in ltb s.last s.q ≡ true = lt-ltb _ _ c.if-self.true in
+    let few : leb c.args.self.used slots ≡ true = le-leb _ _ c.if-self-le-SLOTS.true in
+    simp (alphabet, variables, last, few, lt-ltb _ _ c.if-self-gt0.true)
 
 pub returns-else-self-gt0 : goal.returns-else-self-gt0
 unfolding sound_sender
 returns-else-self-gt0 c =
-    simp (alphabet c, variables c, last c, few c, le-ltb _ _ c.if-self-gt0.false)
+    let alphabet : is_alphabet c.args.self.q ≡ true = sym c.is_alphabet.ensures ∙ c.if-is_alphabet.true in
+    let variables : is_variables c.args.self.m ≡ true = sym c.is_variables.ensures ∙ c.if-is_variables.true in
+    let last : let s = c.args.self in ltb s.last s.q ≡ true = lt-ltb _ _ c.if-self.true in
+    let few : leb c.args.self.used slots ≡ true = le-leb _ _ c.if-self-le-SLOTS.true in
+    simp (alphabet, variables, last, few, le-ltb _ _ c.if-self-gt0.false)
 
 pub returns-else-self-le-SLOTS : goal.returns-else-self-le-SLOTS
 unfolding sound_sender
 returns-else-self-le-SLOTS c =
-    simp (alphabet c, variables c, last c, lt-leb _ _ c.if-self-le-SLOTS.false)
+    let alphabet : is_alphabet c.args.self.q ≡ true = sym c.is_alphabet.ensures ∙ c.if-is_alphabet.true in
+    let variables : is_variables c.args.self.m ≡ true = sym c.is_variables.ensures ∙ c.if-is_variables.true in
+    let last : let s = c.args.self in ltb s.last s.q ≡ true = lt-ltb _ _ c.if-self.true in
+    simp (alphabet, variables, last, lt-leb _ _ c.if-self-le-SLOTS.false)
 
 pub returns-else-self : goal.returns-else-self
 unfolding sound_sender
 returns-else-self c =
-    simp (alphabet c, variables c, le-ltb _ _ c.if-self.false)
+    let alphabet : is_alphabet c.args.self.q ≡ true = sym c.is_alphabet.ensures ∙ c.if-is_alphabet.true in
+    let variables : is_variables c.args.self.m ≡ true = sym c.is_variables.ensures ∙ c.if-is_variables.true in
+    simp (alphabet, variables, le-ltb _ _ c.if-self.false)
 
 pub returns-else-is_variables : goal.returns-else-is_variables
 unfolding sound_sender
-returns-else-is_variables c = c.is_variables.ensures ∙ simp (alphabet c, sym c.is_variables.ensures ∙ c.if-is_variables.false)
+returns-else-is_variables c =
+    let alphabet : is_alphabet c.args.self.q ≡ true = sym c.is_alphabet.ensures ∙ c.if-is_alphabet.true in
+    c.is_variables.ensures ∙ simp (alphabet, sym c.is_variables.ensures ∙ c.if-is_variables.false)
 
 pub returns-else-is_alphabet : goal.returns-else-is_alphabet
 unfolding sound_sender
