@@ -5,11 +5,11 @@ use Rattle.swar_lanes.proofs.ballot.Goals as goal
 
 pub votes_within-requires : goal.votes_within-requires
 votes_within-requires c = (
-      c.requires.alphabet,
-      number_below _ c.args.x.now _ _ c.requires.symbols (omega (arith, c.requires.few)) c.number.ensures,
-      number_below _ c.args.x.now _ _ c.requires.symbols (omega (arith, c.requires.few)) c.number-then-k-lt4.ensures,
-      omega arith,
-    )
+  c.requires.alphabet,
+  number_below _ c.args.x.now _ _ c.requires.symbols (omega (arith, c.requires.few)) c.number.ensures,
+  number_below _ c.args.x.now _ _ c.requires.symbols (omega (arith, c.requires.few)) c.number-then-k-lt4.ensures,
+  omega arith,
+)
 
 pub returns-then-k-lt4 : goal.returns-then-k-lt4
 returns-then-k-lt4 c =

@@ -32,7 +32,7 @@ less-requires c =
 
 pub returns : goal.returns
 returns c = (
-      across_ballot c.args.q c.args.k c.args.j c.args.x.now c.nth_clear-i.result _ _ _ _ c.requires.1
-          c.nth_clear-i.ensures c.pow2.ensures c.number.ensures c.number-2.ensures c.less.ensures,
-      less_below c.args.q _ _ _ c.requires.0.alphabet c.less.ensures,
-    )
+  across_ballot c.args.q c.args.k c.args.j c.args.x.now c.nth_clear-i.result _ _ _ _ c.requires.1
+      c.nth_clear-i.ensures c.pow2.ensures c.number.ensures c.number-2.ensures c.less.ensures,
+  less_below c.args.q _ _ _ c.requires.0.alphabet c.less.ensures,
+)

@@ -9,8 +9,8 @@ less-requires c = search (rules, blend_below, partners_below, up_below)
 
 pub returns : goal.returns
 returns c = (
-      within_votes c.args.q c.args.k c.args.a c.args.b _ _ _ _ _ c.requires.3
-          c.lane_bit-l.ensures.0 c.partners.ensures c.lane_step.ensures.0 c.blend-high.ensures c.blend-low.ensures
-          c.less.result c.less.ensures,
-      less_below c.args.q _ _ _ c.requires.0 c.less.ensures,
-    )
+  within_votes c.args.q c.args.k c.args.a c.args.b _ _ _ _ _ c.requires.3
+      c.lane_bit-l.ensures.0 c.partners.ensures c.lane_step.ensures.0 c.blend-high.ensures c.blend-low.ensures
+      c.less.result c.less.ensures,
+  less_below c.args.q _ _ _ c.requires.0 c.less.ensures,
+)
