@@ -15,8 +15,9 @@ pub slice_bounds-yr-count : goal.slice_bounds-yr-count
 slice_bounds-yr-count c =
     (step_room _ _ _ _ _ c.requires.0 c.requires.1 c.pow2-step.ensures).0
 
--- TODO part_yr_start : tie.Need-slice-bounds-yr-start invariant_loop decreases_loop
--- TODO part_yr_start c = sub_yr c
+pub slice_bounds-yr-start : goal.slice_bounds-yr-start
+slice_bounds-yr-start c =
+    (step_room _ _ _ _ _ c.requires.0 c.requires.1 c.pow2-step.ensures).0
 
 pub offset_bounds-im-step : goal.offset_bounds-im-step
 offset_bounds-im-step c =
@@ -26,8 +27,9 @@ pub slice_bounds-yi-count : goal.slice_bounds-yi-count
 slice_bounds-yi-count c =
     (step_room _ _ _ _ _ c.requires.0 c.requires.1 c.pow2-step.ensures).1
 
--- TODO part_yi_start : tie.Need-slice-bounds-yi-start invariant_loop decreases_loop
--- TODO part_yi_start c = sub_yi c
+pub slice_bounds-yi-start : goal.slice_bounds-yi-start
+slice_bounds-yi-start c =
+    (step_room _ _ _ _ _ c.requires.0 c.requires.1 c.pow2-step.ensures).1
 
 pub loop-b-init : goal.loop-b-init
 unfolding pair
