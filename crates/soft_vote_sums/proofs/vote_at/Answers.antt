@@ -7,33 +7,27 @@ use Rattle.soft_vote_sums.proofs.vote_at.Goals as goal
 
 pub overflow_add-i : goal.overflow_add-i
 overflow_add-i c =
-    let room : let s = c.args in let i = s.i + c.pow2-step.result in (i < length s.re.now) × (i < length s.im.now) × (i < 256) = partner_room _ _ c.args.j _ _ c.requires.0 c.requires.1 c.requires.2 _ _ c.requires.3 c.pow2-step.ensures in
-    omega (arith, room)
+    omega (arith, partner_room c.args.m c.args.k c.args.j c.args.re.now c.args.im.now c.requires.0 c.requires.1 c.requires.2 c.args.i c.pow2-step.result c.requires.3 c.pow2-step.ensures)
 
 pub part-requires : goal.part-requires
 part-requires c =
-    let room : let s = c.args in let i = s.i + c.pow2-step.result in (i < length s.re.now) × (i < length s.im.now) × (i < 256) = partner_room _ _ c.args.j _ _ c.requires.0 c.requires.1 c.requires.2 _ _ c.requires.3 c.pow2-step.ensures in
-    omega (arith, room)
+    omega (arith, partner_room c.args.m c.args.k c.args.j c.args.re.now c.args.im.now c.requires.0 c.requires.1 c.requires.2 c.args.i c.pow2-step.result c.requires.3 c.pow2-step.ensures)
 
 pub overflow_add-i-2 : goal.overflow_add-i-2
 overflow_add-i-2 c =
-    let room : let s = c.args in let i = s.i + c.pow2-step.result in (i < length s.re.now) × (i < length s.im.now) × (i < 256) = partner_room _ _ c.args.j _ _ c.requires.0 c.requires.1 c.requires.2 _ _ c.requires.3 c.pow2-step.ensures in
-    omega (arith, room)
+    omega (arith, partner_room c.args.m c.args.k c.args.j c.args.re.now c.args.im.now c.requires.0 c.requires.1 c.requires.2 c.args.i c.pow2-step.result c.requires.3 c.pow2-step.ensures)
 
 pub part-requires-2 : goal.part-requires-2
 part-requires-2 c =
-    let room : let s = c.args in let i = s.i + c.pow2-step.result in (i < length s.re.now) × (i < length s.im.now) × (i < 256) = partner_room _ _ c.args.j _ _ c.requires.0 c.requires.1 c.requires.2 _ _ c.requires.3 c.pow2-step.ensures in
-    omega (arith, room)
+    omega (arith, partner_room c.args.m c.args.k c.args.j c.args.re.now c.args.im.now c.requires.0 c.requires.1 c.requires.2 c.args.i c.pow2-step.result c.requires.3 c.pow2-step.ensures)
 
 pub part-requires-3 : goal.part-requires-3
 part-requires-3 c =
-    let room : let s = c.args in let i = s.i + c.pow2-step.result in (i < length s.re.now) × (i < length s.im.now) × (i < 256) = partner_room _ _ c.args.j _ _ c.requires.0 c.requires.1 c.requires.2 _ _ c.requires.3 c.pow2-step.ensures in
-    omega (arith, room)
+    omega (arith, partner_room c.args.m c.args.k c.args.j c.args.re.now c.args.im.now c.requires.0 c.requires.1 c.requires.2 c.args.i c.pow2-step.result c.requires.3 c.pow2-step.ensures)
 
 pub part-requires-4 : goal.part-requires-4
 part-requires-4 c =
-    let room : let s = c.args in let i = s.i + c.pow2-step.result in (i < length s.re.now) × (i < length s.im.now) × (i < 256) = partner_room _ _ c.args.j _ _ c.requires.0 c.requires.1 c.requires.2 _ _ c.requires.3 c.pow2-step.ensures in
-    omega (arith, room)
+    omega (arith, partner_room c.args.m c.args.k c.args.j c.args.re.now c.args.im.now c.requires.0 c.requires.1 c.requires.2 c.args.i c.pow2-step.result c.requires.3 c.pow2-step.ensures)
 
 pub returns : goal.returns
 returns c =
