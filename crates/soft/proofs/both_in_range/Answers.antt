@@ -1,5 +1,6 @@
 -- `both_in_range` meets its contract, by the answers for both slices.
 use mathlib.Core.Path.{ap₂}
+use mathlib.Core.Bool.{◌&&◌}
 use native.Mathlib.Omega.{arith}
 use Rattle.soft.proofs.Range.{range_span}
 use Rattle.soft.proofs.both_in_range.Goals as goal

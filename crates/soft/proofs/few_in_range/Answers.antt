@@ -1,5 +1,6 @@
 -- `few_in_range` meets its contract, by the answers for both slices.
 use mathlib.Core.Path.{ap₂, sym, ◌∙◌}
+use mathlib.Core.Bool.{◌&&◌}
 use native.Mathlib.Omega.{arith}
 use Rattle.soft.proofs.Range.{range_span, variables_size}
 use Rattle.soft.proofs.few_in_range.Goals as goal

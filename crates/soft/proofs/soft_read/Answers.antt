@@ -1,7 +1,7 @@
 -- `soft_read` meets its contract: its ends are a no to the questions up to 10, an unsure decision, and the message.
 use mathlib.Core.Path.{refl, ap, sym, ◌∙◌}
+use mathlib.Core.Bool.{not}
 use native.Mathlib.Nat.{le_of_eq}
-use borrow.Author.Tests.{not-true, not-false}
 use lib.ListN.{set}
 use lib.Seq.{length-take-le}
 use Rattle.code_theory.proofs.ListLaws.{front_copied}
@@ -35,7 +35,7 @@ unfolding soft_answered
 returns-then-not-is_sure c =
     let p = read_unsure _ _ _ _ _ c.sample_refusal-number.ensures c.if-number-ne0.false
     (constant_unsure _ _ _ c.is_sure.result (sym c.if-not-coefficients.false ∙ c.coefficients.ensures.0)
-    (c.is_sure.ensures ∙ ap is_sure c.constant-last.ensures) c.if-not-is_sure.true) in
+    (c.is_sure.ensures ∙ ap is_sure c.constant-last.ensures) (ap not c.if-not-is_sure.true)) in
     record { fact_1 = p.0; fact_2 = p.1 }
 
 pub slice_bounds-found-end : goal.slice_bounds-found-end
@@ -43,21 +43,15 @@ slice_bounds-found-end c =
     let (s, l) = read_accepted _ _ _ _ (sym c.sample_refusal-number.ensures ∙ c.if-number-ne0.false) in
     message_fits _ _ _ _ _ c.symbol_of.result _ l s.high (c.coefficients.ensures.1 c.if-not-coefficients.false)
 
--- TODO slice_aggregate_copy : tie.Need-slice-aggregate-copy
--- TODO slice_aggregate_copy c =
--- TODO     let g = c.before.before.before.before.before.before in
--- TODO     let f = g.before.before in
--- TODO     let e = f.before.before in
--- TODO     let (s, l) = read_accepted _ _ _ _ (sym e.before.sample-refusal.ensures ∙ e.if1.false) in
--- TODO     sym (length-take-le _ _ (message_fits _ _ _ _ _ c.before.symbol-of.result _ l s.high (f.coefficients.ensures.1 (not-false _ g.if2.false))))
+pub slice_bounds-copy_from_slice-end : goal.slice_bounds-copy_from_slice-end
+slice_bounds-copy_from_slice-end c =
+    let (s, l) = read_accepted _ _ _ _ (sym c.sample_refusal-number.ensures ∙ c.if-number-ne0.false) in
+    sym (length-take-le _ _ (message_fits _ _ _ _ _ c.symbol_of.result _ l s.high (c.coefficients.ensures.1 c.if-not-coefficients.false)))
 
--- TODO copy_requires : tie.Need-copy-requires
--- TODO copy_requires c κs =
--- TODO     let g = c.before.before.before.before.before.before.before in
--- TODO     let f = g.before.before in
--- TODO     let e = f.before.before in
--- TODO     let (s, l) = read_accepted _ _ _ _ (sym e.before.sample-refusal.ensures ∙ e.if1.false) in
--- TODO     le_of_eq (length-take-le _ _ (message_fits _ _ _ _ _ c.before.before.symbol-of.result _ l s.high (f.coefficients.ensures.1 (not-false _ g.if2.false))))
+pub copy_from_slice-requires : goal.copy_from_slice-requires
+copy_from_slice-requires c =
+    let (s, l) = read_accepted _ _ _ _ (sym c.sample_refusal-number.ensures ∙ c.if-number-ne0.false) in
+    sym (length-take-le _ _ (message_fits _ _ _ _ _ c.symbol_of.result _ l s.high (c.coefficients.ensures.1 c.if-not-coefficients.false)))
 
 pub returns : goal.returns
 unfolding soft_answered
@@ -65,11 +59,9 @@ returns c =
     let (s, l) = read_accepted _ _ _ _ (sym c.sample_refusal-number.ensures ∙ c.if-number-ne0.false) in
     let found = c.coefficients.ensures.1 c.if-not-coefficients.false in
     let p = read_sure _ _ _ _ _ c.sample_refusal-number.ensures c.if-number-ne0.false
-    (all_yes _ _ _ c.is_sure.result (sym c.if-not-coefficients.false ∙ c.coefficients.ensures.0)
-    (c.is_sure.ensures ∙ ap is_sure c.constant-last.ensures) c.if-not-is_sure.false)
-    _
-    (front_copied (set c.coefficients.new.1.1.1.0 0 c.symbol_of.result) c.args.message.now _ _
-    (message_fits _ _ _ _ _ c.symbol_of.result _ l s.high found) refl c.copy.ensures.1
-    ∙ message_is _ _ _ _ c.symbol_of.result _ l s.high found
-    (c.symbol_of.ensures ∙ ap symbol c.constant-last.ensures)) in
+        (all_yes _ _ _ c.is_sure.result (sym c.if-not-coefficients.false ∙ c.coefficients.ensures.0)
+        (c.is_sure.ensures ∙ ap is_sure c.constant-last.ensures) (ap not c.if-not-is_sure.false))
+        _
+        (c.copy_from_slice.ensures.after
+        ∙ message_is _ _ _ _ c.symbol_of.result _ l s.high found (c.symbol_of.ensures ∙ ap symbol c.constant-last.ensures)) in
     record { fact_1 = p.0; fact_2 = p.1 }
