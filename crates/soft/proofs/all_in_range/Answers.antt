@@ -12,11 +12,11 @@ part-requires-in-loop-i c = omega (arith, c.requires)
 
 pub loop-i-preserved : goal.loop-i-preserved
 loop-i-preserved c = (
-      omega arith,
-      refl,
-      range_next _ _ c.loop-i.i c.loop-i.all c.in_range.result c.in_range-in-loop-i.result c.part.result c.part-in-loop-i.result
-          c.loop-i.invariant.2 c.part.ensures c.in_range.ensures c.part-in-loop-i.ensures c.in_range-in-loop-i.ensures,
-    )
+  omega arith,
+  refl,
+  range_next _ _ c.loop-i.i c.loop-i.all c.in_range.result c.in_range-in-loop-i.result c.part.result c.part-in-loop-i.result
+      c.loop-i.invariant.2 c.part.ensures c.in_range.ensures c.part-in-loop-i.ensures c.in_range-in-loop-i.ensures,
+)
 
 pub returns : goal.returns
 returns c = range_both _ _ c.loop-i.i c.loop-i.all c.loop-i.invariant.2 (omega arith) (omega (arith, c.requires))

@@ -59,9 +59,9 @@ returns c =
     let (s, l) = read_accepted _ _ _ _ (sym c.sample_refusal-number.ensures ∙ c.if-number-ne0.false) in
     let found = c.coefficients.ensures.1 c.if-not-coefficients.false in
     let p = read_sure _ _ _ _ _ c.sample_refusal-number.ensures c.if-number-ne0.false
-        (all_yes _ _ _ c.is_sure.result (sym c.if-not-coefficients.false ∙ c.coefficients.ensures.0)
-        (c.is_sure.ensures ∙ ap is_sure c.constant-last.ensures) (ap not c.if-not-is_sure.false))
-        _
-        (c.copy_from_slice.ensures.after
-        ∙ message_is _ _ _ _ c.symbol_of.result _ l s.high found (c.symbol_of.ensures ∙ ap symbol c.constant-last.ensures)) in
+    (all_yes _ _ _ c.is_sure.result (sym c.if-not-coefficients.false ∙ c.coefficients.ensures.0)
+    (c.is_sure.ensures ∙ ap is_sure c.constant-last.ensures) (ap not c.if-not-is_sure.false))
+    _
+    (c.copy_from_slice.ensures.after
+    ∙ message_is _ _ _ _ c.symbol_of.result _ l s.high found (c.symbol_of.ensures ∙ ap symbol c.constant-last.ensures)) in
     record { fact_1 = p.0; fact_2 = p.1 }

@@ -23,13 +23,13 @@ bounds-all-i c = omega (arith, c.requires.0.high)
 pub add_row-requires : goal.add_row-requires
 unfolding votes_of
 add_row-requires c = (
-      c.requires.0.high,
-      c.loop-k.invariant.0,
-      omega arith,
-      c.put_rows.ensures,
-      held_is c.loop-k.all c.loop-k.k _ (omega (arith, c.loop-k.invariant.2.size, c.requires.0.high))
-          ∙ c.loop-k.invariant.2.rest c.loop-k.k (omega arith) ∙ c.loop-b.invariant.2.each c.loop-k.k c.loop-k.invariant.0 (omega arith),
-    )
+  c.requires.0.high,
+  c.loop-k.invariant.0,
+  omega arith,
+  c.put_rows.ensures,
+  held_is c.loop-k.all c.loop-k.k _ (omega (arith, c.loop-k.invariant.2.size, c.requires.0.high))
+      ∙ c.loop-k.invariant.2.rest c.loop-k.k (omega arith) ∙ c.loop-b.invariant.2.each c.loop-k.k c.loop-k.invariant.0 (omega arith),
+)
 
 pub bounds-all-i-in-loop-k : goal.bounds-all-i-in-loop-k
 bounds-all-i-in-loop-k c = omega (arith, c.requires.0.high)

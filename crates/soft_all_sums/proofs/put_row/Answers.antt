@@ -21,11 +21,11 @@ overflow_add-i c =
 
 pub vote_at-z-requires : goal.vote_at-z-requires
 vote_at-z-requires c = (
-      c.requires.0,
-      c.requires.2,
-      (block_room _ _ _ _ _ c.loop-x.x c.requires.0 c.requires.2 c.requires.3 (omega arith)).1,
-      ap (λ n. n + c.loop-x.x % 4) c.nth_clear.ensures ∙ near c.args.k c.args.b c.loop-x.x c.requires.1,
-    )
+  c.requires.0,
+  c.requires.2,
+  (block_room _ _ _ _ _ c.loop-x.x c.requires.0 c.requires.2 c.requires.3 (omega arith)).1,
+  ap (λ n. n + c.loop-x.x % 4) c.nth_clear.ensures ∙ near c.args.k c.args.b c.loop-x.x c.requires.1,
+)
 
 pub bounds-rows-at : goal.bounds-rows-at
 bounds-rows-at c =

@@ -4,7 +4,6 @@ use mathlib.Core.Bool.{not}
 use Rattle.soft_vote_sums.specs.Pair.{pair}
 use Rattle.soft_decision.specs.Voted.{voted}
 use Rattle.soft_decision.proofs.Floats.{by_unsure, by_sure}
-
 use Rattle.soft_decision.proofs.decision.Goals as goal
 
 pub returns-then-not-is_decisive : goal.returns-then-not-is_decisive

@@ -1,7 +1,5 @@
 -- `vote_at` meets its contract: the index and its partner are within both slices.
-use Prim.Native.Nat.{◌+◌, ◌<◌}
 use native.Mathlib.Omega.{arith}
-use lib.ListN.{length}
 use Rattle.soft_vote_sums.proofs.Steps.{partner_room, sample_is, vote_is}
 use Rattle.soft_vote_sums.proofs.vote_at.Goals as goal
 

@@ -58,12 +58,12 @@ overflow_step-b c =
 
 pub loop-b-preserved : goal.loop-b-preserved
 loop-b-preserved c = (
-      omega arith,
-      refl,
-      votes_next _ _ _ c.loop-b.b (pair c.loop-b.s) (pair c.add-s.result) _ (pair c.vote_of.result) (pair c.vote_of-in-loop-b.result)
-          c.loop-b.invariant.2 (onward_vote _ _ _ _ _ _ _ c.nth_clear.ensures c.pow2-step.ensures c.vote_of.ensures) c.add-s.ensures
-          (onward_vote _ _ _ _ _ _ _ c.nth_clear-in-loop-b.ensures c.pow2-step.ensures c.vote_of-in-loop-b.ensures) c.add-s-in-loop-b.ensures,
-    )
+  omega arith,
+  refl,
+  votes_next _ _ _ c.loop-b.b (pair c.loop-b.s) (pair c.add-s.result) _ (pair c.vote_of.result) (pair c.vote_of-in-loop-b.result)
+      c.loop-b.invariant.2 (onward_vote _ _ _ _ _ _ _ c.nth_clear.ensures c.pow2-step.ensures c.vote_of.ensures) c.add-s.ensures
+      (onward_vote _ _ _ _ _ _ _ c.nth_clear-in-loop-b.ensures c.pow2-step.ensures c.vote_of-in-loop-b.ensures) c.add-s-in-loop-b.ensures,
+)
 
 pub returns : goal.returns
 returns c =
