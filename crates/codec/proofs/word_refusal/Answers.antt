@@ -34,10 +34,10 @@ pub returns-then-not-word_below : goal.returns-then-not-word_below
 returns-then-not-word_below c =
     let first : size_refusal c.args.q c.args.m c.args.message.now ≡ 0 = sym c.size_refusal-number.ensures ∙ c.if-number-ne0.false in
     let size : is_word_size c.args.m c.args.word.now ≡ true = word_yes _ _ (c.if-word-pow2.false ∙ c.pow2.ensures) in
-    sym (word_later _ _ _ _ first ∙ ask_on _ _ _ size ∙ ask_no _ _ _ (sym c.word_below.ensures ∙ not-true _ c.if-not-word_below.true))
+    sym (word_later _ _ _ _ first ∙ ask_on _ _ _ size ∙ ask_no _ _ _ (sym c.word_below.ensures ∙ c.if-not-word_below.true))
 
 pub returns : goal.returns
 returns c =
     let first : size_refusal c.args.q c.args.m c.args.message.now ≡ 0 = sym c.size_refusal-number.ensures ∙ c.if-number-ne0.false in
     let size : is_word_size c.args.m c.args.word.now ≡ true = word_yes _ _ (c.if-word-pow2.false ∙ c.pow2.ensures) in
-    sym (word_later _ _ _ _ first ∙ ask_on _ _ _ size ∙ ask_on _ _ _ (sym c.word_below.ensures ∙ not-false _ c.if-not-word_below.false))
+    sym (word_later _ _ _ _ first ∙ ask_on _ _ _ size ∙ ask_on _ _ _ (sym c.word_below.ensures ∙ c.if-not-word_below.false))

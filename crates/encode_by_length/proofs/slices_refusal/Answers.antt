@@ -19,7 +19,7 @@ message_below-requires c =
 pub returns-then-not-message_below : goal.returns-then-not-message_below
 returns-then-not-message_below c =
     let size : is_message_size c.args.m c.args.message.now ≡ true = message_yes _ _ c.if-message-m.false in
-    below_no _ _ _ _ c.requires.0 c.requires.1 size (sym c.message_below.ensures ∙ not-true _ c.if-not-message_below.true)
+    below_no _ _ _ _ c.requires.0 c.requires.1 size (sym c.message_below.ensures ∙ c.if-not-message_below.true)
 
 pub pow2-requires : goal.pow2-requires
 pow2-requires c = (variables_bounds _ c.requires.1).1
@@ -27,11 +27,11 @@ pow2-requires c = (variables_bounds _ c.requires.1).1
 pub returns-then-word-pow2 : goal.returns-then-word-pow2
 returns-then-word-pow2 c =
     let size : is_message_size c.args.m c.args.message.now ≡ true = message_yes _ _ c.if-message-m.false in
-    let below : all_below c.args.q c.args.message.now ≡ true = sym c.message_below.ensures ∙ not-false _ c.if-not-message_below.false in
+    let below : all_below c.args.q c.args.message.now ≡ true = sym c.message_below.ensures ∙ c.if-not-message_below.false in
     word_no_room _ _ _ _ c.requires.0 c.requires.1 size below (word_no _ _ (λ z. c.if-word-pow2.true (z ∙ sym c.pow2.ensures)))
 
 pub returns : goal.returns
 returns c =
     let size : is_message_size c.args.m c.args.message.now ≡ true = message_yes _ _ c.if-message-m.false in
-    let below : all_below c.args.q c.args.message.now ≡ true = sym c.message_below.ensures ∙ not-false _ c.if-not-message_below.false in
+    let below : all_below c.args.q c.args.message.now ≡ true = sym c.message_below.ensures ∙ c.if-not-message_below.false in
     sym (all_yes _ _ _ _ c.requires.0 c.requires.1 size below (word_yes _ _ (c.if-word-pow2.false ∙ c.pow2.ensures)))

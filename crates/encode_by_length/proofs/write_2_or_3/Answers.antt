@@ -15,12 +15,12 @@ write_sized-requires-in-3 c = (c.requires.0, refl)
 
 pub returns-in-2 : goal.returns-in-2
 returns-in-2 c =
-    let p = with_variables c.args.q c.args.m 2 _ _ _ _ (omega arith) c.write_sized.ensures in
+    let p = with_variables c.args.q c.args.m 2 _ _ _ _ (omega arith) (c.write_sized.ensures.answer, c.write_sized.ensures.buffer) in
     record { answer = p.0; buffer = p.1 }
 
 pub returns-in-3 : goal.returns-in-3
 returns-in-3 c =
-    let p = with_variables c.args.q c.args.m 3 _ _ _ _ (omega arith) c.write_sized-in-3.ensures in
+    let p = with_variables c.args.q c.args.m 3 _ _ _ _ (omega arith) (c.write_sized-in-3.ensures.answer, c.write_sized-in-3.ensures.buffer) in
     record { answer = p.0; buffer = p.1 }
 
 pub returns-in_default : goal.returns-in_default

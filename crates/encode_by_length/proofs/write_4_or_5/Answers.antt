@@ -15,10 +15,10 @@ write_sized-requires-in_default c = (c.requires.0, refl)
 
 pub returns-in-4 : goal.returns-in-4
 returns-in-4 c =
-    let p = with_variables c.args.q c.args.m 4 _ _ _ _ (omega arith) c.write_sized.ensures in
+    let p = with_variables c.args.q c.args.m 4 _ _ _ _ (omega arith) (c.write_sized.ensures.answer, c.write_sized.ensures.buffer) in
     record { answer = p.0; buffer = p.1 }
 
 pub returns-in_default : goal.returns-in_default
 returns-in_default c =
-    let p = with_variables c.args.q c.args.m 5 _ _ _ _ (omega arith) c.write_sized-in_default.ensures in
+    let p = with_variables c.args.q c.args.m 5 _ _ _ _ (omega arith) (c.write_sized-in_default.ensures.answer, c.write_sized-in_default.ensures.buffer) in
     record { answer = p.0; buffer = p.1 }

@@ -15,12 +15,12 @@ write_sized-requires-in-8 c = (c.requires.0, refl)
 
 pub returns-in-7 : goal.returns-in-7
 returns-in-7 c =
-    let p = with_variables c.args.q c.args.m 7 _ _ _ _ (omega arith) c.write_sized.ensures in
+    let p = with_variables c.args.q c.args.m 7 _ _ _ _ (omega arith) (c.write_sized.ensures.answer, c.write_sized.ensures.buffer) in
     record { answer = p.0; buffer = p.1 }
 
 pub returns-in-8 : goal.returns-in-8
 returns-in-8 c =
-    let p = with_variables c.args.q c.args.m 8 _ _ _ _ (omega arith) c.write_sized-in-8.ensures in
+    let p = with_variables c.args.q c.args.m 8 _ _ _ _ (omega arith) (c.write_sized-in-8.ensures.answer, c.write_sized-in-8.ensures.buffer) in
     record { answer = p.0; buffer = p.1 }
 
 pub returns-in_default : goal.returns-in_default

@@ -14,7 +14,7 @@ use Rattle.interleave.proofs.rearrange.Goals as goal
 
 pub returns-then-not-is_alphabet : goal.returns-then-not-is_alphabet
 returns-then-not-is_alphabet c =
-    let n = refused_1 _ _ _ _ _ (sym c.is_alphabet.ensures ∙ not-true _ c.if-not-is_alphabet.true) in
+    let n = refused_1 _ _ _ _ _ (sym c.is_alphabet.ensures ∙ c.if-not-is_alphabet.true) in
     record {
       number = n;
       buffer = rearrange_kept _ _ _ _ _ 1 n (λ z. omega (arith, z));
@@ -22,7 +22,7 @@ returns-then-not-is_alphabet c =
 
 pub rearrange_sixteen-requires : goal.rearrange_sixteen-requires
 rearrange_sixteen-requires c =
-    let alphabet : is_alphabet c.args.q ≡ true = sym c.is_alphabet.ensures ∙ not-false _ c.if-not-is_alphabet.false in
+    let alphabet : is_alphabet c.args.q ≡ true = sym c.is_alphabet.ensures ∙ c.if-not-is_alphabet.false in
     alphabet
 
 pub returns-then-m-eq4 : goal.returns-then-m-eq4
@@ -32,8 +32,8 @@ returns-then-m-eq4 c =
 
 pub returns-then-not-is_variables : goal.returns-then-not-is_variables
 returns-then-not-is_variables c =
-    let alphabet : is_alphabet c.args.q ≡ true = sym c.is_alphabet.ensures ∙ not-false _ c.if-not-is_alphabet.false in
-    let n = refused_2 _ _ _ _ _ alphabet (sym c.is_variables.ensures ∙ not-true _ c.if-not-is_variables.true) in
+    let alphabet : is_alphabet c.args.q ≡ true = sym c.is_alphabet.ensures ∙ c.if-not-is_alphabet.false in
+    let n = refused_2 _ _ _ _ _ alphabet (sym c.is_variables.ensures ∙ c.if-not-is_variables.true) in
     record {
       number = n;
       buffer = rearrange_kept _ _ _ _ _ 2 n (λ z. omega (arith, z));
@@ -41,9 +41,9 @@ returns-then-not-is_variables c =
 
 pub returns-then-not-is_group : goal.returns-then-not-is_group
 returns-then-not-is_group c =
-    let alphabet : is_alphabet c.args.q ≡ true = sym c.is_alphabet.ensures ∙ not-false _ c.if-not-is_alphabet.false in
-    let variables : is_variables c.args.m ≡ true = sym c.is_variables.ensures ∙ not-false _ c.if-not-is_variables.false in
-    let n = refused_14 _ _ _ _ _ alphabet variables (sym c.is_group.ensures ∙ not-true _ c.if-not-is_group.true) in
+    let alphabet : is_alphabet c.args.q ≡ true = sym c.is_alphabet.ensures ∙ c.if-not-is_alphabet.false in
+    let variables : is_variables c.args.m ≡ true = sym c.is_variables.ensures ∙ c.if-not-is_variables.false in
+    let n = refused_14 _ _ _ _ _ alphabet variables (sym c.is_group.ensures ∙ c.if-not-is_group.true) in
     record {
       number = n;
       buffer = rearrange_kept _ _ _ _ _ 14 n (λ z. omega (arith, z));
@@ -51,23 +51,23 @@ returns-then-not-is_group c =
 
 pub pow2-requires : goal.pow2-requires
 pow2-requires c =
-    let variables : is_variables c.args.m ≡ true = sym c.is_variables.ensures ∙ not-false _ c.if-not-is_variables.false in
+    let variables : is_variables c.args.m ≡ true = sym c.is_variables.ensures ∙ c.if-not-is_variables.false in
     (variables_bounds _ variables).1
 
 pub any_size-requires : goal.any_size-requires
 any_size-requires c =
-    let alphabet : is_alphabet c.args.q ≡ true = sym c.is_alphabet.ensures ∙ not-false _ c.if-not-is_alphabet.false in
-    let variables : is_variables c.args.m ≡ true = sym c.is_variables.ensures ∙ not-false _ c.if-not-is_variables.false in
-    let group : is_group c.args.count ≡ true = sym c.is_group.ensures ∙ not-false _ c.if-not-is_group.false in
+    let alphabet : is_alphabet c.args.q ≡ true = sym c.is_alphabet.ensures ∙ c.if-not-is_alphabet.false in
+    let variables : is_variables c.args.m ≡ true = sym c.is_variables.ensures ∙ c.if-not-is_variables.false in
+    let group : is_group c.args.count ≡ true = sym c.is_group.ensures ∙ c.if-not-is_group.false in
     let s = c.args in
     let e : s.count * c.pow2.result ≡ s.count * 2 ^ s.m = ap (λ k. s.count * k) c.pow2.ensures in
     (alphabet, omega (arith, e, group_limit s.m s.count variables group, mul_comm s.count c.pow2.result))
 
 pub returns : goal.returns
 returns c =
-    let alphabet : is_alphabet c.args.q ≡ true = sym c.is_alphabet.ensures ∙ not-false _ c.if-not-is_alphabet.false in
-    let variables : is_variables c.args.m ≡ true = sym c.is_variables.ensures ∙ not-false _ c.if-not-is_variables.false in
-    let group : is_group c.args.count ≡ true = sym c.is_group.ensures ∙ not-false _ c.if-not-is_group.false in
+    let alphabet : is_alphabet c.args.q ≡ true = sym c.is_alphabet.ensures ∙ c.if-not-is_alphabet.false in
+    let variables : is_variables c.args.m ≡ true = sym c.is_variables.ensures ∙ c.if-not-is_variables.false in
+    let group : is_group c.args.count ≡ true = sym c.is_group.ensures ∙ c.if-not-is_group.false in
     let p = rearrange_checked _ _ _ _ _ alphabet variables group _ _
     (checked_as _ _ _ _ _ _ _ _ _ refl c.pow2.ensures c.any_size.ensures) in
     record { number = p.0; buffer = p.1 }

@@ -31,7 +31,7 @@ returns-then-count-eq16 c =
 
 pub returns-then-not-is_group : goal.returns-then-not-is_group
 returns-then-not-is_group c =
-    let n = refused_14 _ 4 _ _ _ c.requires sixteen_places (sym c.is_group.ensures ∙ not-true _ c.if-not-is_group.true) in
+    let n = refused_14 _ 4 _ _ _ c.requires sixteen_places (sym c.is_group.ensures ∙ c.if-not-is_group.true) in
     record {
       number = n;
       buffer = rearrange_kept _ _ _ _ _ 14 n (λ z. omega (arith, z));
@@ -39,11 +39,11 @@ returns-then-not-is_group c =
 
 pub any_size-requires : goal.any_size-requires
 any_size-requires c =
-    let group : is_group c.args.count ≡ true = sym c.is_group.ensures ∙ not-false _ c.if-not-is_group.false in
+    let group : is_group c.args.count ≡ true = sym c.is_group.ensures ∙ c.if-not-is_group.false in
     (c.requires, group_limit 4 _ sixteen_places group)
 
 pub returns : goal.returns
 returns c =
-    let group : is_group c.args.count ≡ true = sym c.is_group.ensures ∙ not-false _ c.if-not-is_group.false in
+    let group : is_group c.args.count ≡ true = sym c.is_group.ensures ∙ c.if-not-is_group.false in
     let p = rearrange_checked _ 4 _ _ _ c.requires sixteen_places group _ _ c.any_size.ensures in
     record { number = p.0; buffer = p.1 }

@@ -12,8 +12,8 @@ returns-then-target-size c = refused_target _ _ _ _ c.if-source-size.false c.if-
 
 pub returns-then-not-group_below : goal.returns-then-not-group_below
 returns-then-not-group_below c =
-    refused_below _ _ _ _ c.if-source-size.false c.if-target-size.false (sym c.group_below.ensures ∙ not-true _ c.if-not-group_below.true)
+    refused_below _ _ _ _ c.if-source-size.false c.if-target-size.false (sym c.group_below.ensures ∙ c.if-not-group_below.true)
 
 pub returns : goal.returns
 returns c =
-    refused_none _ _ _ _ c.if-source-size.false c.if-target-size.false (sym c.group_below.ensures ∙ not-false _ c.if-not-group_below.false)
+    refused_none _ _ _ _ c.if-source-size.false c.if-target-size.false (sym c.group_below.ensures ∙ c.if-not-group_below.false)

@@ -18,9 +18,9 @@ all_below-requires c = alphabet_positive _ c.requires
 
 pub returns-then-not-all_below : goal.returns-then-not-all_below
 returns-then-not-all_below c =
-    checked_no _ 16 16 256 8 _ _ refl (refused_below _ _ _ _ c.if-source-ne256.false c.if-target-ne256.false (sym c.all_below.ensures ∙ not-true _ c.if-not-all_below.true)) (λ z. omega (arith, z))
+    checked_no _ 16 16 256 8 _ _ refl (refused_below _ _ _ _ c.if-source-ne256.false c.if-target-ne256.false (sym c.all_below.ensures ∙ c.if-not-all_below.true)) (λ z. omega (arith, z))
 
 pub returns : goal.returns
 returns c =
-    let n = refused_none _ _ _ _ c.if-source-ne256.false c.if-target-ne256.false (sym c.all_below.ensures ∙ not-false _ c.if-not-all_below.false) in
+    let n = refused_none _ _ _ _ c.if-source-ne256.false c.if-target-ne256.false (sym c.all_below.ensures ∙ c.if-not-all_below.false) in
     checked_yes _ 16 16 256 0 _ _ refl n _ refl c.square.ensures

@@ -11,9 +11,9 @@ returns-then-message-ne5 c = sym (unpack_5 c.args.message.now c.if-message-ne5.t
 pub returns-then-not-all_below : goal.returns-then-not-all_below
 unfolding ask
 returns-then-not-all_below c =
-    sym (unpack_6 c.args.message.now _ c.if-message-ne5.false c.all_below.ensures ∙ ap (λ b. ask b 6 0) (not-true c.all_below.result c.if-not-all_below.true))
+    sym (unpack_6 c.args.message.now _ c.if-message-ne5.false c.all_below.ensures ∙ ap (λ b. ask b 6 0) c.if-not-all_below.true)
 
 pub returns : goal.returns
 unfolding ask
 returns c =
-    sym (unpack_6 c.args.message.now _ c.if-message-ne5.false c.all_below.ensures ∙ ap (λ b. ask b 6 0) (not-false c.all_below.result c.if-not-all_below.false))
+    sym (unpack_6 c.args.message.now _ c.if-message-ne5.false c.all_below.ensures ∙ ap (λ b. ask b 6 0) c.if-not-all_below.false)
