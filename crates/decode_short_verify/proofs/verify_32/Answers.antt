@@ -20,23 +20,21 @@ candidate_32-g-requires c = (
       held_below c.args.q 5 c.args.word.now 16 c.sixteen-y.result c.requires c.sixteen-y.ensures,
     )
 
--- the candidate of the word
-only : (c : goal.After-candidate_32-g)
-    → OnlyCandidate c.args.q 5 c.args.word.now (message_of c.candidate_32-g.result)
-only c = c.candidate_32-g.ensures _ c.sixteen-x.ensures c.sixteen-y.ensures
-
 pub left-e-requires : goal.left-e-requires
 left-e-requires c =
-    left_asks c.args.q 5 c.args.word.now 0 _ c.candidate_32-g.result c.requires c.sixteen-x.ensures (only c)
+    let only : OnlyCandidate c.args.q 5 c.args.word.now (message_of c.candidate_32-g.result) = c.candidate_32-g.ensures _ c.sixteen-x.ensures c.sixteen-y.ensures in
+    left_asks c.args.q 5 c.args.word.now 0 _ c.candidate_32-g.result c.requires c.sixteen-x.ensures only
 
 pub further-requires : goal.further-requires
 further-requires c =
-    let (a, c0, c1, c2, c3, c4) = symbols_below c.args.q 5 c.args.word.now _ _ _ _ _ _ (only c.before) in
+    let only : OnlyCandidate c.args.q 5 c.args.word.now (message_of c.candidate_32-g.result) = c.candidate_32-g.ensures _ c.sixteen-x.ensures c.sixteen-y.ensures in
+    let (a, c0, c1, c2, c3, c4) = symbols_below c.args.q 5 c.args.word.now _ _ _ _ _ _ only in
     (c.requires.alphabet, a, c4)
 
 pub left-f-requires : goal.left-f-requires
 left-f-requires c =
-    let l = left_asks c.args.q 5 c.args.word.now 16 _ c.candidate_32-g.result c.requires c.sixteen-y.ensures (only c.before.before) in
+    let only : OnlyCandidate c.args.q 5 c.args.word.now (message_of c.candidate_32-g.result) = c.candidate_32-g.ensures _ c.sixteen-x.ensures c.sixteen-y.ensures in
+    let l = left_asks c.args.q 5 c.args.word.now 16 _ c.candidate_32-g.result c.requires c.sixteen-y.ensures only in
     (l.0, l.1, c.further.ensures.1, l.3, l.4, l.5, l.6)
 
 pub wrong_16-requires : goal.wrong_16-requires
