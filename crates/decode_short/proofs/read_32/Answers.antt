@@ -26,8 +26,8 @@ unfolding message
 returns-then-t-lt2 c =
     let t = c.verify_32-t in
     let f = c.store_6 in
-    let e = front_all 6 _ c.args.s.now f.new.0 (omega arith) c.requires.1 f.ensures in
-    few _ 4 _ _ _ _ c.requires.0 (omega arith) refl t.ensures.symbols c.args.s.now f.new.0 _ (omega arith) (omega arith) e c.few_errors.ensures
+    let e = front_all 6 _ c.args.s.now f.new.s (omega arith) c.requires.1 f.ensures in
+    few _ 4 _ _ _ _ c.requires.0 (omega arith) refl t.ensures.symbols c.args.s.now f.new.s _ (omega arith) (omega arith) e c.few_errors.ensures
 
 pub margin_32-requires : goal.margin_32-requires
 unfolding message
@@ -41,5 +41,5 @@ unfolding message
 returns c =
     let t = c.verify_32-t in
     let f = c.store_6 in
-    let e = front_all 6 _ c.args.s.now f.new.0 (omega arith) c.requires.1 f.ensures in
-    damaged _ 4 _ _ _ _ c.requires.0 (omega arith) refl t.ensures.symbols c.args.s.now f.new.0 c.margin_32.result (omega arith) e c.margin_32.ensures
+    let e = front_all 6 _ c.args.s.now f.new.s (omega arith) c.requires.1 f.ensures in
+    damaged _ 4 _ _ _ _ c.requires.0 (omega arith) refl t.ensures.symbols c.args.s.now f.new.s c.margin_32.result (omega arith) e c.margin_32.ensures

@@ -26,5 +26,5 @@ unfolding message
 returns c =
     let t = c.verify_4-t in
     let f = c.store_3 in
-    let e = front_all 3 _ c.args.s.now f.new.0 (omega arith) c.requires.1 f.ensures in
-    few _ 1 _ _ _ _ c.requires.0 (omega arith) refl t.ensures c.args.s.now f.new.0 _ (omega arith) (omega arith) e c.few_errors.ensures
+    let e = front_all 3 _ c.args.s.now f.new.s (omega arith) c.requires.1 f.ensures in
+    few _ 1 _ _ _ _ c.requires.0 (omega arith) refl t.ensures c.args.s.now f.new.s _ (omega arith) (omega arith) e c.few_errors.ensures

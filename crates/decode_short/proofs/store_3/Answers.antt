@@ -7,4 +7,4 @@ returns c =
     let a = c.put in
     let b = c.put-2 in
     let e = c.put-3 in
-    stored_three c.args.s.now a.new.0 b.new.0 e.new.0 c.args.a c.args.c0 c.args.c1 c.requires.0 a.ensures b.ensures e.ensures
+    stored_three c.args.s.now a.new.s b.new.s e.new.s c.args.a c.args.c0 c.args.c1 c.requires.0 a.ensures b.ensures e.ensures

@@ -11,4 +11,4 @@ returns c =
     let e = c.put in
     let shorter = message c.args.a c.args.c0 c.args.c1 c.args.c2 c.args.c3 0 in
     let longer = message c.args.a c.args.c0 c.args.c1 c.args.c2 c.args.c3 c.args.c4 in
-    stored_next 5 shorter longer c.args.s.now f.new.0 e.new.0 c.args.c4 c.requires.0 f.ensures refl refl e.ensures
+    stored_next 5 shorter longer c.args.s.now f.new.s e.new.s c.args.c4 c.requires.0 f.ensures refl refl e.ensures
