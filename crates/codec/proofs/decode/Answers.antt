@@ -23,7 +23,7 @@ unfolding decoded
 returns-in-Read c =
     let yes : word_refusal c.args.q c.args.m c.args.message.now c.args.word.now ≡ 0 = sym c.word_refusal-number.ensures ∙ c.if-number-ne0.false in
     let r = c.read in
-    let p = decode_accepted _ _ _ _ _ r.result _ yes r.ensures c.reading-1.given.1 in
+    let p = decode_accepted _ _ _ _ _ r.result _ yes r.ensures c.in-Read.is in
     record { answer = p.0; buffer = p.1 }
 
 pub returns-in-Doubtful : goal.returns-in-Doubtful
@@ -31,5 +31,5 @@ unfolding decoded
 returns-in-Doubtful c =
     let yes : word_refusal c.args.q c.args.m c.args.message.now c.args.word.now ≡ 0 = sym c.word_refusal-number.ensures ∙ c.if-number-ne0.false in
     let r = c.read in
-    let p = decode_doubtful _ _ _ _ _ r.result yes r.ensures c.enum_told-1.given.1 in
+    let p = decode_doubtful _ _ _ _ _ r.result yes r.ensures c.in-Doubtful.is in
     record { answer = p.0; buffer = p.1 }

@@ -3,9 +3,6 @@ use native.Mathlib.Omega.{arith}
 use Rattle.decode_long.proofs.LongLaws.{room_of, front_low, code_packed, code_within, few, long_leads}
 use Rattle.decode_long.proofs.long_constant.Goals as goal
 
--- TODO part_load_end : tie.Need-slice-bounds-load-end
--- TODO part_load_end c = room_of _ _ _ c.before.before.requires.0 _ c.pow2.ensures
-
 pub load-requires : goal.load-requires
 load-requires c =
     let w = front_low _ _ _ c.requires.0 _ c.pow2.ensures in
@@ -36,4 +33,4 @@ returns c =
     let y = code_packed _ _ _ k _ n _ _ c.requires.3 l.ensures in
     let t = c.difference_tally-t in
     let u = c.difference_tally-u in
-    long_leads _ _ _ k _ n c.args.x.now l.new.1.0 y _ _ _ h t.ensures u.ensures _ _ _ c.winner_of.ensures
+    long_leads _ _ _ k _ n c.args.x.now l.new.x y _ _ _ h t.ensures u.ensures _ _ _ c.winner_of.ensures

@@ -33,23 +33,14 @@ pub slice_bounds-found-end : goal.slice_bounds-found-end
 slice_bounds-found-end c =
     room c.args.m _ _ c.requires.0.high c.requires.2 c.winners-reading.ensures.size
 
--- TODO slice_aggregate_copy : tie.Need-slice-aggregate-copy
--- TODO slice_aggregate_copy c =
--- TODO     let s = c.before.before.before.before.before.before.before in
--- TODO     let r = c.before.before.before.winners in
--- TODO     sym (length-take-le (length s.args.message.now) r.new.1.1.1.0 (room s.args.m _ _ s.requires.0.high s.requires.2 r.ensures.size))
-
--- TODO copy_requires : tie.Need-copy-requires
--- TODO copy_requires c κs =
--- TODO     let s = c.before.before.before.before.before.before.before.before in
--- TODO     let r = c.before.before.before.before.winners in
--- TODO     le_of_eq (length-take-le (length s.args.message.now) r.new.1.1.1.0 (room s.args.m _ _ s.requires.0.high s.requires.2 r.ensures.size))
+pub copy_from_slice-requires : goal.copy_from_slice-requires
+copy_from_slice-requires c =
+    let r = c.winners-reading in
+    sym (length-take-le (length c.args.message.now) r.new.message (room c.args.m _ _ c.requires.0.high c.requires.2 r.ensures.size))
 
 pub returns : goal.returns
 returns c =
     let r = c.winners-reading in
-    let f = c.copy in
-    let h = room c.args.m _ _ c.requires.0.high c.requires.2 r.ensures.size in
-    let e = front_copied r.new.1.1.1.0 c.args.message.now _ f.new.1.0 h refl f.ensures.1 in
-    winning_read _ _ _ _ _ _ c.requires.0 r.ensures c.args.message.now f.new.1.0 (omega (arith, c.requires.0.symbols.size))
-    (e ∙ ap (λ n. take n r.new.1.1.1.0) (c.requires.2 ∙ add-one c.args.m))
+    let copy = c.copy_from_slice in
+    winning_read _ _ _ _ _ _ c.requires.0 r.ensures c.args.message.now copy.new.self (omega (arith, c.requires.0.symbols.size))
+    (copy.ensures.after ∙ ap (λ n. take n r.new.message) (c.requires.2 ∙ add-one c.args.m))
