@@ -10,8 +10,7 @@ pub returns-in-Read : goal.returns-in-Read
 unfolding decode_number
 returns-in-Read c =
     let d = c.decode in
-    let n = c.reading-1.given in
-    let x = decode_read c.args.q c.args.m c.args.message.now c.args.word.now d.result d.ensures.answer n.0.0 n.1 in
+    let x = decode_read c.args.q c.args.m c.args.message.now c.args.word.now d.result d.ensures.answer c.in-Read.reading c.in-Read.is in
     record {
       answer = ap₂ (λ a b. 1000000 + 1000 * a + b) (c.wide.ensures ∙ x.1) (c.wide-in-Read.ensures ∙ x.2) ∙ sym (after_yes _ _ _ x.0);
       buffer = d.ensures.buffer;
@@ -21,8 +20,7 @@ pub returns-in-Refused : goal.returns-in-Refused
 unfolding decode_number
 returns-in-Refused c =
     let d = c.decode in
-    let n = c.number-1.given in
-    let x = decode_number_lem c.args.q c.args.m c.args.message.now c.args.word.now d.result d.ensures.answer n.0.0 n.1 in
+    let x = decode_number_lem c.args.q c.args.m c.args.message.now c.args.word.now d.result d.ensures.answer c.in-Refused.number c.in-Refused.is in
     record {
       answer = c.wide-in-Refused.ensures ∙ x.0 ∙ sym (after_no _ _ _ x.1);
       buffer = d.ensures.buffer;

@@ -1,7 +1,7 @@
 -- `near_short` meets its contract: the buffer holds the word of the message when it is compared.
 use Prim.Native.Nat.{◌≤◌, ◌^◌}
 use mathlib.Core.Path.{◌≡◌, sym, ◌∙◌}
-use mathlib.Core.Bool.{Bool, true, false, cond}
+use mathlib.Core.Bool.{true, false}
 use mathlib.Core.List.{[], ◌∷◌}
 use native.Mathlib.Omega.{arith}
 use lib.Pow.{pow_mono}
@@ -30,15 +30,14 @@ few_differ-requires c =
     let yes : let s = c.args in encode_refusal s.q s.m s.message.now s.word.now ≡ 0 = sym c.slices_refusal-number.ensures ∙ c.if-number-ne0.false in
     quarters_fit _ _ _ _ yes _ c.pow2.ensures _ _ c.write.ensures room
 
--- the answer, by the comparison
-told : (c : goal.After-few_differ) (b : Bool) → c.few_differ.result ≡ b → let s = c.args in accepted (cond b 1 0 ∷ []) ≡ near_answer s.q s.m s.message.now s.word.now
-told c b f =
-    near_told _ _ _ _ (yes c.before.before.before.before.before.before) _ c.pow2.ensures _ _ b _ c.write.ensures c.few_differ.ensures f
-
 pub returns-then-few_differ : goal.returns-then-few_differ
 unfolding nearness
-returns-then-few_differ c = told c.before true c.if-few_differ.true
+returns-then-few_differ c =
+    let yes : let s = c.args in encode_refusal s.q s.m s.message.now s.word.now ≡ 0 = sym c.slices_refusal-number.ensures ∙ c.if-number-ne0.false in
+    near_told _ _ _ _ yes _ c.pow2.ensures _ _ true _ c.write.ensures c.few_differ.ensures c.if-few_differ.true
 
 pub returns : goal.returns
 unfolding nearness
-returns c = told c.before false c.if-few_differ.false
+returns c =
+    let yes : let s = c.args in encode_refusal s.q s.m s.message.now s.word.now ≡ 0 = sym c.slices_refusal-number.ensures ∙ c.if-number-ne0.false in
+    near_told _ _ _ _ yes _ c.pow2.ensures _ _ false _ c.write.ensures c.few_differ.ensures c.if-few_differ.false

@@ -1,10 +1,10 @@
 -- `few_differ` meets its contract: before place i so many places differ, fewer than a quarter of all.
 use Prim.Native.Nat.{◌+◌, ◌*◌, ◌≤◌, ◌<◌}
 use mathlib.Core.Path.{◌≡◌}
-use mathlib.Core.Logic.{⊎_elim}
 use native.Mathlib.Omega.{arith}
 use Rattle.decode_near_places.proofs.DifferingLaws.{none_yet, run_more, at_end, at_quarter}
 use Rattle.decode_near_places.proofs.few_differ.Goals as goal
+use Rattle.decode_near_places.proofs.few_differ.Goals.{then-found-ne0+else-wrong-quarter, else-found-ne0}
 
 pub loop-i-init : goal.loop-i-init
 loop-i-init c = (omega arith, omega arith, omega arith, none_yet _ _ _)
@@ -16,7 +16,7 @@ loop-i-preserved c =
     let r = c.run_length-places in
     let f = c.differences-found in
     let more : (c.if-found-ne0.wrong < s.quarter) × (c.if-found-ne0.wrong ≡ l.wrong + f.result) =
-    ⊎_elim (λ x. (omega (arith, x.1.left, x.2), x.2)) (λ x. (omega (arith, x.1, l.invariant.2), omega (arith, x.0.left, x.1))) c.if-found-ne0.branch in
+        elim c.if-found-ne0.branch [ then-found-ne0+else-wrong-quarter w ↦ (omega arith, omega arith) | else-found-ne0 w ↦ (omega arith, omega arith) ] in
     (l.invariant.0, omega arith, more.0, omega (arith, more.1, l.invariant.3, f.ensures.0, run_more s.code.now s.word.now l.i r.result))
 
 pub returns-then-i-n : goal.returns-then-i-n

@@ -10,16 +10,14 @@ use Rattle.rm_c.proofs.rm_read.Goals as goal
 pub overflow_add-result : goal.overflow_add-result
 overflow_add-result c =
     let d = c.decode in
-    let n = c.reading-1.given in
-    let small = decode_small _ _ _ _ d.result d.ensures.answer n.0.0 n.1 in
+    let small = decode_small _ _ _ _ d.result d.ensures.answer c.in-Read.reading c.in-Read.is in
     omega (arith, small.0, small.1)
 
 pub returns-in-Read : goal.returns-in-Read
 unfolding read_number numbered
 returns-in-Read c =
     let d = c.decode in
-    let n = c.reading-1.given in
-    let x = decode_read c.args.q c.args.m c.args.message.now c.args.word.now d.result d.ensures.answer n.0.0 n.1 in
+    let x = decode_read c.args.q c.args.m c.args.message.now c.args.word.now d.result d.ensures.answer c.in-Read.reading c.in-Read.is in
     record {
       answer = ap (λ w. 100 + w) x.1 ∙ sym (after_yes _ _ _ x.0);
       buffer = d.ensures.buffer;
@@ -29,8 +27,7 @@ pub returns-in-Refused : goal.returns-in-Refused
 unfolding read_number numbered
 returns-in-Refused c =
     let d = c.decode in
-    let n = c.number-1.given in
-    let x = decode_number_lem c.args.q c.args.m c.args.message.now c.args.word.now d.result d.ensures.answer n.0.0 n.1 in
+    let x = decode_number_lem c.args.q c.args.m c.args.message.now c.args.word.now d.result d.ensures.answer c.in-Refused.number c.in-Refused.is in
     record {
       answer = x.0 ∙ sym (after_no _ _ _ x.1);
       buffer = d.ensures.buffer;

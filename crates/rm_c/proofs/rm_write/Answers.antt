@@ -10,7 +10,7 @@ unfolding write_number numbered
 returns-in-Written c =
     let d = c.encode in
     record {
-      answer = sym (after_yes _ _ _ (encode_written c.args.q c.args.m c.args.message.now c.args.word.now d.result d.ensures.answer c.enum_told-1.given.1));
+      answer = sym (after_yes _ _ _ (encode_written c.args.q c.args.m c.args.message.now c.args.word.now d.result d.ensures.answer c.in-Written.is));
       buffer = d.ensures.buffer;
     }
 
@@ -18,8 +18,7 @@ pub returns-in-Refused : goal.returns-in-Refused
 unfolding write_number numbered
 returns-in-Refused c =
     let d = c.encode in
-    let n = c.number-1.given in
-    let x = encode_number_lem c.args.q c.args.m c.args.message.now c.args.word.now d.result d.ensures.answer n.0.0 n.1 in
+    let x = encode_number_lem c.args.q c.args.m c.args.message.now c.args.word.now d.result d.ensures.answer c.in-Refused.number c.in-Refused.is in
     record {
       answer = x.0 ∙ sym (after_no _ _ _ x.1);
       buffer = d.ensures.buffer;
