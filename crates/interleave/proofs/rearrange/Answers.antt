@@ -22,12 +22,11 @@ returns-then-not-is_alphabet c =
 
 pub rearrange_sixteen-requires : goal.rearrange_sixteen-requires
 rearrange_sixteen-requires c =
-    let alphabet : is_alphabet c.args.q ≡ true = sym c.is_alphabet.ensures ∙ c.if-not-is_alphabet.false in
-    alphabet
+    sym c.is_alphabet.ensures ∙ c.if-not-is_alphabet.false
 
 pub returns-then-m-eq4 : goal.returns-then-m-eq4
 returns-then-m-eq4 c =
-    let p = rearrange_as _ 4 c.args.m _ _ _ _ _ (omega arith) c.rearrange_sixteen.ensures in
+    let p = rearrange_as _ 4 c.args.m _ _ _ _ _ (omega arith) (c.rearrange_sixteen.ensures.number, c.rearrange_sixteen.ensures.buffer) in
     record { number = p.0; buffer = p.1 }
 
 pub returns-then-not-is_variables : goal.returns-then-not-is_variables
