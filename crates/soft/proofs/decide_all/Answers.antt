@@ -1,7 +1,7 @@
 -- `decide_all` meets its contract. The loop's invariant: the first k coefficients are sure and stand in found.
 use mathlib.Core.Path.{ap, sym, ◌∙◌}
 use native.Mathlib.Omega.{arith}
-use mathlib.Core.Bool.{not, true, false≢true}
+use mathlib.Core.Bool.{not, false≢true}
 use Rattle.soft_all_sums.proofs.RowLaws.{held_is}
 use Rattle.soft.proofs.ReadLaws.{tested, learnt, found_none, found_next, found_all, sure_none, sure_next, sure_stop, sure_all}
 use Rattle.soft.proofs.decide_all.Goals as goal

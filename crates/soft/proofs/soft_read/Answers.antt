@@ -1,10 +1,7 @@
 -- `soft_read` meets its contract: its ends are a no to the questions up to 10, an unsure decision, and the message.
 use mathlib.Core.Path.{refl, ap, sym, ◌∙◌}
 use mathlib.Core.Bool.{not}
-use native.Mathlib.Nat.{le_of_eq}
-use lib.ListN.{set}
 use lib.Seq.{length-take-le}
-use Rattle.code_theory.proofs.ListLaws.{front_copied}
 use Rattle.soft_theory.specs.Decision.{is_sure, symbol}
 use Rattle.soft.specs.Answers.{soft_answered}
 use Rattle.soft.proofs.Refusals.{read_accepted}
