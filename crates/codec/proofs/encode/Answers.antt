@@ -6,13 +6,13 @@ use Rattle.codec.proofs.encode.Goals as goal
 pub returns-then-number-ne0 : goal.returns-then-number-ne0
 unfolding encoded
 returns-then-number-ne0 c = record {
-      answer = encode_refused _ _ _ _ _ c.write_any-number.ensures.answer c.if-number-ne0.true;
-      buffer = c.write_any-number.ensures.buffer;
-    }
+  answer = encode_refused _ _ _ _ _ c.write_any-number.ensures.answer c.if-number-ne0.true;
+  buffer = c.write_any-number.ensures.buffer;
+}
 
 pub returns : goal.returns
 unfolding encoded
 returns c = record {
-      answer = encode_accepted _ _ _ _ _ c.write_any-number.ensures.answer c.if-number-ne0.false;
-      buffer = c.write_any-number.ensures.buffer;
-    }
+  answer = encode_accepted _ _ _ _ _ c.write_any-number.ensures.answer c.if-number-ne0.false;
+  buffer = c.write_any-number.ensures.buffer;
+}

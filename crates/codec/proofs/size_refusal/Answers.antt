@@ -1,7 +1,6 @@
 -- `size_refusal` meets its contract, by the answers to the questions asked so far.
 use mathlib.Core.Path.{◌≡◌, sym, ◌∙◌}
 use mathlib.Core.Bool.{true}
-use borrow.Author.Tests.{not-true, not-false}
 use Rattle.code_theory.specs.Question.{is_alphabet, is_variables}
 use Rattle.code_theory.proofs.QuestionLaws.{ask_on, ask_no, message_yes, message_no}
 use Rattle.codec.specs.Internal.{size_refusal}

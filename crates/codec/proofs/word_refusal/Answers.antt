@@ -1,7 +1,6 @@
 -- `word_refusal` meets its contract, by the answers to the questions asked so far.
 use mathlib.Core.Path.{◌≡◌, sym, ◌∙◌}
 use mathlib.Core.Bool.{true}
-use borrow.Author.Tests.{not-true, not-false}
 use Rattle.code_theory.specs.Question.{is_word_size}
 use Rattle.code_theory.proofs.QuestionLaws.{ask_on, ask_no, word_yes, word_no, word_size}
 use Rattle.codec.specs.Internal.{size_refusal}

@@ -1,6 +1,6 @@
 -- `long_constant` meets its contract: the two halves of the word are counted apart.
 use native.Mathlib.Omega.{arith}
-use Rattle.decode_long.proofs.LongLaws.{room_of, front_low, code_packed, code_within, few, long_leads}
+use Rattle.decode_long.proofs.LongLaws.{front_low, code_packed, code_within, few, long_leads}
 use Rattle.decode_long.proofs.long_constant.Goals as goal
 
 pub load-requires : goal.load-requires

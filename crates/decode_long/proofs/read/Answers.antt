@@ -1,12 +1,10 @@
 -- `read` meets its contract: the winners settle the reading.
 use Prim.Native.Nat.{ℕ, ◌+◌, ◌≤◌}
-use mathlib.Core.Path.{◌≡◌, refl, ap, sym, ◌∙◌}
+use mathlib.Core.Path.{◌≡◌, ap, sym, ◌∙◌}
 use native.Mathlib.Omega.{arith}
-use native.Mathlib.Nat.{le_of_eq}
 use native.Mathlib.Numerals.{add-one}
 use lib.ListN.{length, take}
 use lib.Seq.{length-take-le}
-use Rattle.code_theory.proofs.ListLaws.{front_copied}
 use Rattle.code_theory.proofs.WordLaws.{word_length}
 use Rattle.decode_reading.proofs.SettleLaws.{settled_doubtful}
 use Rattle.decode_long.proofs.ReadLaws.{wrong_le, winning_measured, winning_read}

@@ -2,7 +2,6 @@
 use mathlib.Core.Path.{◌≡◌, refl, sym, ◌∙◌}
 use mathlib.Core.Bool.{true}
 use native.Mathlib.Omega.{arith}
-use borrow.Author.Tests.{not-true, not-false}
 use Rattle.code_theory.specs.Question.{is_alphabet, is_variables}
 use Rattle.encode_by_length.proofs.EncodeLaws.{alphabet_no}
 use Rattle.decode_near.specs.Nearness.{nearness}

@@ -2,12 +2,10 @@
 use Prim.Native.Nat.{◌≤◌, ◌^◌}
 use mathlib.Core.Path.{◌≡◌, sym, ◌∙◌}
 use mathlib.Core.Bool.{true, false}
-use mathlib.Core.List.{[], ◌∷◌}
 use native.Mathlib.Omega.{arith}
 use lib.Pow.{pow_mono}
-use Rattle.code_theory.specs.Question.{accepted}
 use Rattle.code_theory.proofs.QuestionLaws.{variables_bounds}
-use Rattle.decode_near.specs.Nearness.{encode_refusal, near_answer, nearness}
+use Rattle.decode_near.specs.Nearness.{encode_refusal, nearness}
 use Rattle.decode_near.proofs.NearLaws.{near_refused, buffer_fits, quarters_fit, near_told}
 use Rattle.decode_near.proofs.near_long.Goals as goal
 

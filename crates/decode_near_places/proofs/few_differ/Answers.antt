@@ -16,7 +16,7 @@ loop-i-preserved c =
     let r = c.run_length-places in
     let f = c.differences-found in
     let more : (c.if-found-ne0.wrong < s.quarter) × (c.if-found-ne0.wrong ≡ l.wrong + f.result) =
-        elim c.if-found-ne0.branch [ then-found-ne0+else-wrong-quarter w ↦ (omega arith, omega arith) | else-found-ne0 w ↦ (omega arith, omega arith) ] in
+    elim c.if-found-ne0.branch [ then-found-ne0+else-wrong-quarter w ↦ (omega arith, omega arith) | else-found-ne0 w ↦ (omega arith, omega arith) ] in
     (l.invariant.0, omega arith, more.0, omega (arith, more.1, l.invariant.3, f.ensures.0, run_more s.code.now s.word.now l.i r.result))
 
 pub returns-then-i-n : goal.returns-then-i-n

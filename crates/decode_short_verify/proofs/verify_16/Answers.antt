@@ -24,7 +24,7 @@ wrong_16-requires c =
 
 pub returns : goal.returns
 returns c = record {
-      symbols = verifies_one c.args.q 4 c.args.word.now c.requires (omega arith) _ c.candidate_16-g.result c.left-e.result
-          c.sixteen-x.ensures c.left-e.ensures.0 c.candidate_16-g.ensures.1 c.wrong_16.result c.wrong_16.ensures.0;
-      lanes = c.left-e.ensures.1;
-    }
+  symbols = verifies_one c.args.q 4 c.args.word.now c.requires (omega arith) _ c.candidate_16-g.result c.left-e.result
+      c.sixteen-x.ensures c.left-e.ensures.0 c.candidate_16-g.ensures.1 c.wrong_16.result c.wrong_16.ensures.0;
+  lanes = c.left-e.ensures.1;
+}

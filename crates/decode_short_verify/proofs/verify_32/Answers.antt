@@ -15,10 +15,10 @@ sixteen-y-requires c =
 
 pub candidate_32-g-requires : goal.candidate_32-g-requires
 candidate_32-g-requires c = (
-      c.requires.alphabet,
-      held_below c.args.q 5 c.args.word.now 0 c.sixteen-x.result c.requires c.sixteen-x.ensures,
-      held_below c.args.q 5 c.args.word.now 16 c.sixteen-y.result c.requires c.sixteen-y.ensures,
-    )
+  c.requires.alphabet,
+  held_below c.args.q 5 c.args.word.now 0 c.sixteen-x.result c.requires c.sixteen-x.ensures,
+  held_below c.args.q 5 c.args.word.now 16 c.sixteen-y.result c.requires c.sixteen-y.ensures,
+)
 
 pub left-e-requires : goal.left-e-requires
 left-e-requires c =
@@ -47,8 +47,8 @@ wrong_16-requires-2 c =
 
 pub returns : goal.returns
 returns c = record {
-      symbols = verifies_both c.args.q c.args.word.now c.requires _ _ c.candidate_32-g.result c.further.result c.left-e.result c.left-f.result
-          c.sixteen-x.ensures c.sixteen-y.ensures c.further.ensures.0 c.left-e.ensures.0 c.left-f.ensures.0 c.candidate_32-g.ensures
-          c.wrong_16.result c.wrong_16-2.result c.wrong_16.ensures.0 c.wrong_16-2.ensures.0;
-      lanes = (c.left-e.ensures.1, c.left-f.ensures.1);
-    }
+  symbols = verifies_both c.args.q c.args.word.now c.requires _ _ c.candidate_32-g.result c.further.result c.left-e.result c.left-f.result
+      c.sixteen-x.ensures c.sixteen-y.ensures c.further.ensures.0 c.left-e.ensures.0 c.left-f.ensures.0 c.candidate_32-g.ensures
+      c.wrong_16.result c.wrong_16-2.result c.wrong_16.ensures.0 c.wrong_16-2.ensures.0;
+  lanes = (c.left-e.ensures.1, c.left-f.ensures.1);
+}
