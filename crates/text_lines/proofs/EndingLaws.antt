@@ -3,13 +3,13 @@ use Prim.Native.Nat.{ℕ, zero, suc, ◌+◌, ◌≤◌, ◌<◌}
 use mathlib.Core.Path.{◌≡◌, refl, ap, sym, ◌∙◌, subst}
 use mathlib.Core.Bool.{Bool, true, false, cond}
 use mathlib.Core.List.{List, [], ◌∷◌}
-use native.Mathlib.Nat.{not-suc-le-zero, le_of_suc-le-suc, zero-add}
+use native.Mathlib.Nat.{not-suc-le-zero, le_of_suc-le-suc}
+use native.Mathlib.Numerals.{add-one}
 use native.Mathlib.Omega.{arith}
 use borrow.Author.Tests.{eq-eqb, ne_eqb, eqb-true, ltb-true}
 use lib.Dec.{eqb, ltb}
-use lib.ListN.{length, take}
-use lib.Seq.{length-take-le, take_all}
-use Rattle.bytes.specs.Bytes.{index_of, index_after, slice}
+use lib.ListN.{length, take, drop, drop_of_length-le}
+use lib.Seq.{drop-cons, length-take-le}
 use Rattle.code_theory.specs.Sum.{at}
 use Rattle.code_theory.proofs.QuestionLaws.{and_true}
 use Rattle.text_lines.specs.Line.{is_digit, is_digits, is_slot, is_miss}
@@ -18,21 +18,34 @@ use Rattle.text_lines.proofs.LineLaws.{digit_at, slot_digits, miss_size}
 
 -- none before a newline, else one byte more
 pub line_step : (b : ℕ) (bytes : List ℕ) → line_length (b ∷ bytes) ≡ cond (eqb b 10) 0 (suc (line_length bytes))
-unfolding line_length index_of index_after
-line_step b bytes = by (eqb b 10)
-  where
-    by : (t : Bool) → index_after t (index_of 10 bytes) ≡ cond t 0 (suc (index_of 10 bytes))
-    by true = refl
-    by false = refl
+unfolding line_length
+line_step b bytes = refl
 
--- the code looks for the newline in all of the bytes
-pub line_found : (bytes : List ℕ) (n : ℕ) → n ≡ 0 + index_of 10 (slice 0 (length bytes) bytes) → n ≡ line_length bytes
-unfolding line_length slice
-line_found bytes n e = e ∙ zero-add _ ∙ ap (index_of 10) (take_all (length bytes) bytes (omega arith))
+-- where byte i is the first that may be a newline: it is one, it is none, or there is no byte i
+line_from : (bytes : List ℕ) (i : ℕ) → i < length bytes → line_length (drop i bytes) ≡ cond (eqb (at bytes i) 10) 0 (suc (line_length (drop (i + 1) bytes)))
+line_from bytes i h = rw (add-one, drop-cons bytes i 0, line_step) refl
+
+pub line_here : (bytes : List ℕ) (i : ℕ) → i < length bytes → at bytes i ≡ 10 → line_length bytes ≡ i + line_length (drop i bytes) → i ≡ line_length bytes
+line_here bytes i h e p =
+    let z : line_length (drop i bytes) ≡ 0 = rw (line_from bytes i h, eq-eqb (at bytes i) 10 e) in
+    omega arith
+
+pub line_on : (bytes : List ℕ) (i : ℕ) → i < length bytes → (at bytes i ≡ 10 → ⊥) → line_length bytes ≡ i + line_length (drop i bytes)
+    → line_length bytes ≡ i + 1 + line_length (drop (i + 1) bytes)
+line_on bytes i h d p =
+    let z : line_length (drop i bytes) ≡ suc (line_length (drop (i + 1) bytes)) = rw (line_from bytes i h, ne_eqb (at bytes i) 10 d) in
+    omega arith
+
+pub line_none : (bytes : List ℕ) (i : ℕ) → length bytes ≡ i → line_length bytes ≡ i + line_length (drop i bytes) → length bytes ≡ line_length bytes
+unfolding line_length
+line_none bytes i n p =
+    let h : length bytes ≤ i = omega arith in
+    let z : line_length (drop i bytes) ≡ 0 = ap line_length (drop_of_length-le bytes h) in
+    omega arith
 
 -- a line ends within the bytes, or with them
 pub line_within : (bytes : List ℕ) → line_length bytes ≤ length bytes
-unfolding line_length index_of
+unfolding line_length
 line_within [] = omega arith
 line_within (b ∷ bytes) = subst (λ n. n ≤ suc (length bytes)) (sym (line_step b bytes)) (by (eqb b 10) (line_within bytes))
   where

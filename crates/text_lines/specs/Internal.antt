@@ -1,6 +1,5 @@
 -- What the code finds in a line, and where a line ends.
-use Rattle.std.specs.Prelude.{ℕ, Bool, ◌&&◌, List, eqb, ltb, length, take}
-
+use Rattle.std.specs.Prelude.{ℕ, suc, Bool, ◌&&◌, cond, List, [], ◌∷◌, eqb, ltb, length, take}
 use Rattle.code_theory.specs.Sum.{at}
 use Rattle.text_lines.specs.declared.Kind.{Kind}
 use Rattle.text_lines.specs.declared.Kind.TheVariants as K
@@ -14,8 +13,8 @@ line_of K.Bad line = bad
 
 -- how many bytes stand before the first newline: all where there is none
 unfoldable pub line_length : List ℕ → ℕ
-unfolding index_of
-line_length bytes = index_of 10 bytes
+line_length [] = 0
+line_length (b ∷ bytes) = cond (eqb b 10) 0 (suc (line_length bytes))
 
 -- whether bytes begin with a slot and the newline behind it
 unfoldable pub has_slot : List ℕ → Bool
