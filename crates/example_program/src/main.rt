@@ -3,8 +3,9 @@
 #![tactic(auto)]
 
 use codec::Decoded;
+use std::io;
 
-fn main() {
+fn main(rt: HostRuntime) -> io::Result<()> {
     let message = [1u8, 1, 3, 0, 2];
     let mut word = [0u8; 16];
     codec::encode(4, 4, &message, &mut word);
@@ -14,5 +15,5 @@ fn main() {
         Decoded::Read(reading) => reading.wrong,
         Decoded::Refused(number) => number,
     };
-    io::print_decimal(1, answer as u64);
+    print!(rt; "{answer}")
 }

@@ -7,8 +7,12 @@ ghost use Rattle.std.specs.Prelude.{◌≡◌, true, false, ◌≤◌, length};
 ghost use Rattle.text_chunks.specs.Reading.{given};
 ghost use Rattle.text_chunks.specs.Internal.{rest_place, goes_on, IfRest};
 
-use libc::{STDIN_FILENO, STDOUT_FILENO};
+use std::io;
+use std::io::{Read, Write};
 use text_chunks::Next;
+
+// The error of a failed read of which the system says no more.
+const EIO: i32 = 5;
 
 // Where the listing stands: what the last read gave, and its error; the place in the chunk up to which it is listed; whether it goes on.
 #[derive(Clone, Copy)]
@@ -20,20 +24,28 @@ struct Place {
 }
 
 // Reads a chunk.
-fn read(chunk: &mut [u8]) -> Place
+#[tactic(auto, using(crate::proofs::ReadLaws::given_most), unfolding(text_chunks::specs::Reading::given))]
+fn read(rt: &HostRuntime, chunk: &mut [u8]) -> Place
     ensures { (given result.got ≤ length chunk.new) × (result.at ≡ 0) × (result.more ≡ true) }
 {
-    let got = libc::read(STDIN_FILENO, chunk);
-    let error = os::errno();
-    Place {
-        got,
-        error,
-        at: 0,
-        more: true,
+    match rt.stdin().read(chunk) {
+        Ok(n) => Place {
+            got: n as isize,
+            error: 0,
+            at: 0,
+            more: true,
+        },
+        Err(e) => Place {
+            got: -1,
+            error: e.raw_os_error().unwrap_or(EIO),
+            at: 0,
+            more: true,
+        },
     }
 }
 
 // The end of the listing.
+#[tactic(auto, unfolding(text_chunks::specs::Reading::given))]
 fn end() -> Place
     ensures { (given result.got ≡ 0) × (result.at ≡ 0) × (result.more ≡ false) }
 {
@@ -46,22 +58,24 @@ fn end() -> Place
 }
 
 // The end after a failed read, which is told.
-fn failed() -> Place
+fn failed(rt: &HostRuntime, error: i32) -> Place
     ensures { (given result.got ≡ 0) × (result.at ≡ 0) × (result.more ≡ false) }
 {
-    os::fail(b"session_list: reading");
+    let e = io::Error::from_raw_os_error(error);
+    let _ = eprintln!(rt; "session_list: reading: {e}");
     end()
 }
 
 // Does what comes next after a round on a chunk of which a read gave so many bytes.
-fn go_on(next: Next, got: isize, error: i32, chunk: &mut [u8]) -> Place
+#[tactic(auto, unfolding(text_chunks::specs::Internal::rest_place, text_chunks::specs::Internal::goes_on, text_chunks::specs::Internal::IfRest))]
+fn go_on(rt: &HostRuntime, next: Next, got: isize, error: i32, chunk: &mut [u8]) -> Place
     requires { (given got ≤ length chunk.old) × (rest_place next ≤ given got) }
     ensures bounds { (given result.got ≤ length chunk.new) × (result.at ≤ given result.got) }
     ensures place { (result.at ≡ rest_place next) × (result.more ≡ goes_on next) }
     ensures rest { IfRest next ((result.got ≡ got) × (result.error ≡ error) × (chunk.new ≡ chunk.old)) }
 {
     match next {
-        Next::Read => read(chunk),
+        Next::Read => read(rt, chunk),
         Next::Rest(at) => Place {
             got,
             error,
@@ -69,27 +83,29 @@ fn go_on(next: Next, got: isize, error: i32, chunk: &mut [u8]) -> Place
             more: true,
         },
         Next::End => end(),
-        Next::Failed => failed(),
+        Next::Failed => failed(rt, error),
     }
 }
 
 // Writes the first bytes of the output; a write that fails is told.
-fn write(out: &[u8], n: usize) -> bool
+fn write(rt: &HostRuntime, out: &[u8], n: usize) -> bool
     requires { n ≤ length out.now }
 {
-    let is_written = io::write_all(STDOUT_FILENO, &out[..n]);
-    if !is_written {
-        os::fail(b"session_list: writing");
+    match Write::write_all(&mut rt.stdout(), &out[..n]) {
+        Ok(()) => true,
+        Err(e) => {
+            let _ = eprintln!(rt; "session_list: writing: {e}");
+            false
+        }
     }
-    is_written
 }
 
 // Lists the input. A proved loop has to end, so it counts its rounds down from a number that no run uses up.
-fn list_all(chunk: &mut [u8], line: &mut [u8], out: &mut [u8])
+fn list_all(rt: &HostRuntime, chunk: &mut [u8], line: &mut [u8], out: &mut [u8])
     requires { (length line.old ≡ 17) × (64 ≤ length out.old) }
 {
     let mut lister = list_stream::start();
-    let mut place = read(chunk);
+    let mut place = read(rt, chunk);
     let mut rounds = u64::MAX;
     while rounds > 0 {
         let round = list_stream::list_round(
@@ -102,11 +118,11 @@ fn list_all(chunk: &mut [u8], line: &mut [u8], out: &mut [u8])
             out,
         );
         lister = round.lister;
-        if !write(out, round.written) {
+        if !write(rt, out, round.written) {
             return;
         }
         let next = round.next;
-        place = go_on(next, place.got, place.error, chunk);
+        place = go_on(rt, next, place.got, place.error, chunk);
         let more = place.more;
         if !more {
             return;
@@ -116,19 +132,19 @@ fn list_all(chunk: &mut [u8], line: &mut [u8], out: &mut [u8])
 }
 
 // Writes the header, and lists the input.
-fn list_session(chunk: &mut [u8], line: &mut [u8], out: &mut [u8])
+fn list_session(rt: &HostRuntime, chunk: &mut [u8], line: &mut [u8], out: &mut [u8])
     requires { (length line.old ≡ 17) × (64 ≤ length out.old) }
 {
     let written = list_line::put_header(out, 0);
-    if !write(out, written) {
+    if !write(rt, out, written) {
         return;
     }
-    list_all(chunk, line, out);
+    list_all(rt, chunk, line, out);
 }
 
-fn main() {
-    let mut chunk = io::large_buffer();
+fn main(rt: HostRuntime) {
+    let mut chunk = [0u8; 1 << 16];
     let mut line = [0u8; 17];
-    let mut out = io::large_buffer();
-    list_session(&mut chunk, &mut line, &mut out);
+    let mut out = [0u8; 1 << 16];
+    list_session(&rt, &mut chunk, &mut line, &mut out);
 }
