@@ -174,14 +174,19 @@ missed_room s n = (miss_yes s n).room
 
 -- a line that was told and printed, as the contracts say it
 abbrev pub Printed : Receiver → Line → Receiver → Bool → List ℕ → ℕ → ℕ → List ℕ → Type 0
-Printed s line next ends b at end out =
-    (next ≡ line_session s line) × ((ends ≡ line_ends s line) × ((end ≡ at + length (line_text s line)) × (out ≡ put b at (line_text s line))))
+Printed s line next over b at end out =
+    record {
+      session : next ≡ line_session s line;
+      ends : over ≡ line_ends s line;
+      place : end ≡ at + length (line_text s line);
+      buffer : out ≡ put b at (line_text s line);
+    }
 
 pub listed_as : (s : Receiver) (line : Line) (next : Receiver) (ends : Bool) (text b : List ℕ) (at end : ℕ) (out : List ℕ) → Told s line next ends text
     → Written b at text end out → Printed s line next ends b at end out
 listed_as s line next ends text b at end out t w =
     let v = written_as t.printed w in
-    (t.session, (t.over, (v.place, v.buffer)))
+    record { session = t.session; ends = t.over; place = v.place; buffer = v.buffer }
 
 -- the same line in other words
 pub relisted : (s : Receiver) (line other : Line) (next : Receiver) (ends : Bool) (b : List ℕ) (at end : ℕ) (out : List ℕ) → line ≡ other

@@ -103,6 +103,7 @@ fn put_zone(zone: Zone, out: &mut [u8], at: usize) -> usize
 }
 
 // Puts the output for a word that is read.
+#[tactic(auto, using(crate::proofs::TextLaws::field_length))]
 fn put_reading(rate: u8, delivery: Delivery, out: &mut [u8], at: usize) -> usize
     requires { at + 64 ≤ length out.old }
     ensures place { result ≡ at + length (reading_text delivery.time rate delivery.zone delivery.wrong delivery.margin) }

@@ -14,6 +14,5 @@ list_word-requires c =
 
 pub returns : goal.returns
 returns c =
-    let v = relisted c.with_code.result _ _ _ _ c.args.out.now c.args.at _ _ (ap slot c.fill_word.ensures) c.list_word.ensures in
-    let p = of_session c.with_code.result c.args.receiver _ _ _ c.args.out.now c.args.at _ _ c.with_code.ensures v in
-    record { session = p.0; ends = p.1; place = p.2; buffer = p.3 }
+    of_session c.with_code.result c.args.receiver _ _ _ c.args.out.now c.args.at _ _ c.with_code.ensures
+    (relisted c.with_code.result _ _ _ _ c.args.out.now c.args.at _ _ (ap slot c.fill_word.ensures) c.list_word.ensures)

@@ -5,6 +5,4 @@ use Rattle.list_line.proofs.put_bad.Goals as goal
 
 pub returns : goal.returns
 unfolding bad_text spaced bytes
-returns c =
-    let p = c.put_text.ensures in
-    record { place = p.0; buffer = p.1 }
+returns c = c.put_text.ensures

@@ -5,6 +5,4 @@ use Rattle.list_line.proofs.put_header.Goals as goal
 
 pub returns : goal.returns
 unfolding header spaced bytes
-returns c =
-    let p = c.put_text.ensures in
-    record { place = p.0; buffer = p.1 }
+returns c = c.put_text.ensures

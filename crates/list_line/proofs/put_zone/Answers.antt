@@ -11,25 +11,25 @@ use Rattle.list_line.proofs.put_zone.Goals as goal
 
 pub put_field-requires : goal.put_field-requires
 put_field-requires c =
-    omega (arith, c.requires, field_length c.zone-1.given.0.0 32 (omega arith))
+    omega (arith, c.requires, field_length c.in-Known.d 32 (omega arith))
 
 pub returns-in-Known : goal.returns-in-Known
 unfolding zone_text field
 returns-in-Known c =
     let e = c.put_field.ensures in
-    let w = written_as {b = c.args.out.now} {at = c.args.at} (ap (λ x. zone_text x ++ (32 ∷ [])) (sym c.zone-1.given.1))
+    let w = written_as {b = c.args.out.now} {at = c.args.at} (ap (λ x. zone_text x ++ (32 ∷ [])) (sym c.in-Known.is))
     (record { place = e.place; buffer = e.buffer }) in
     record {
       place = w.place;
       buffer = w.buffer;
-      small = omega (arith, e.place, field_length c.zone-1.given.0.0 32 (omega arith));
+      small = omega (arith, e.place, field_length c.in-Known.d 32 (omega arith));
     }
 
 pub returns-in-Unknown : goal.returns-in-Unknown
 unfolding zone_text bytes
 returns-in-Unknown c =
     let e = c.put_text.ensures in
-    let w = written_as {b = c.args.out.now} {at = c.args.at} (ap (λ x. zone_text x ++ (32 ∷ [])) (sym c.enum_told-1.given.1))
+    let w = written_as {b = c.args.out.now} {at = c.args.at} (ap (λ x. zone_text x ++ (32 ∷ [])) (sym c.in-Unknown.is))
     (record { place = e.place; buffer = e.buffer }) in
     record {
       place = w.place;
