@@ -42,8 +42,8 @@ pub extern "C" fn compare_soft_vote(m: u32, k: u32, re: &[f32], im: &[f32], sums
 // The soft read: the refusal number, or 100.
 #[unsafe(no_mangle)]
 pub extern "C" fn compare_soft_read(m: u32, message: &mut [u8], re: &[f32], im: &[f32]) -> u32
-    ensures fact_1 { result ≡ answer_number (read_answer f32 m message.old re.now im.now) }
-    ensures fact_2 { message.new ≡ read_message f32 m message.old re.now im.now }
+    ensures answer { result ≡ answer_number (read_answer f32 m message.old re.now im.now) }
+    ensures buffer { message.new ≡ read_message f32 m message.old re.now im.now }
 {
     match soft::soft_read(m, message, re, im) {
         SoftRead::Read => 100,

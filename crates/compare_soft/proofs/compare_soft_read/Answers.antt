@@ -7,10 +7,10 @@ pub returns-in-Read : goal.returns-in-Read
 unfolding soft_answered
 returns-in-Read c =
     let r = c.in-Read.ensures in
-    record { fact_1 = number_yes _ _ r.fact_1; fact_2 = r.fact_2 }
+    record { answer = number_yes _ _ r.answer; buffer = r.buffer }
 
 pub returns-in-Refused : goal.returns-in-Refused
 unfolding soft_answered
 returns-in-Refused c =
     let r = c.in-Refused.ensures in
-    record { fact_1 = number_no _ _ r.fact_1; fact_2 = r.fact_2 }
+    record { answer = number_no _ _ r.answer; buffer = r.buffer }

@@ -12,7 +12,7 @@ pub returns-then-number-ne0 : goal.returns-then-number-ne0
 unfolding soft_answered
 returns-then-number-ne0 c =
     let p = read_out _ _ _ _ _ c.sample_refusal-number.ensures c.if-number-ne0.true in
-    record { fact_1 = p.0; fact_2 = p.1 }
+    record { answer = p.0; buffer = p.1 }
 
 pub coefficients-requires : goal.coefficients-requires
 coefficients-requires c = ((read_accepted _ _ _ _ (sym c.sample_refusal-number.ensures ∙ c.if-number-ne0.false)).0, refl, refl)
@@ -21,7 +21,7 @@ pub returns-then-not-coefficients : goal.returns-then-not-coefficients
 unfolding soft_answered
 returns-then-not-coefficients c =
     let p = read_unsure _ _ _ _ _ c.sample_refusal-number.ensures c.if-number-ne0.false (one_unsure _ _ _ (sym c.if-not-coefficients.true ∙ c.coefficients.ensures.0)) in
-    record { fact_1 = p.0; fact_2 = p.1 }
+    record { answer = p.0; buffer = p.1 }
 
 pub constant-last-requires : goal.constant-last-requires
 constant-last-requires c =
@@ -33,7 +33,7 @@ returns-then-not-is_sure c =
     let p = read_unsure _ _ _ _ _ c.sample_refusal-number.ensures c.if-number-ne0.false
     (constant_unsure _ _ _ c.is_sure.result (sym c.if-not-coefficients.false ∙ c.coefficients.ensures.0)
     (c.is_sure.ensures ∙ ap is_sure c.constant-last.ensures) (ap not c.if-not-is_sure.true)) in
-    record { fact_1 = p.0; fact_2 = p.1 }
+    record { answer = p.0; buffer = p.1 }
 
 pub slice_bounds-found-end : goal.slice_bounds-found-end
 slice_bounds-found-end c =
@@ -61,4 +61,4 @@ returns c =
     _
     (c.copy_from_slice.ensures.after
     ∙ message_is _ _ _ _ c.symbol_of.result _ l s.high found (c.symbol_of.ensures ∙ ap symbol c.constant-last.ensures)) in
-    record { fact_1 = p.0; fact_2 = p.1 }
+    record { answer = p.0; buffer = p.1 }
