@@ -58,12 +58,6 @@ returns-then-out-written-lt64 c =
 pub slice_bounds-read_line-count : goal.slice_bounds-read_line-count
 slice_bounds-read_line-count c = omega arith
 
--- TODO part_read_line_start : tie.Need-slice-bounds-read-line-start invariant_loop decreases_loop
--- TODO part_read_line_start c = omega arith
-
--- TODO part_read_line_end : tie.Need-slice-bounds-read-line-end invariant_loop decreases_loop
--- TODO part_read_line_end c = omega arith
-
 pub read_line-s-requires : goal.read_line-s-requires
 unfolding remaining
 read_line-s-requires c =

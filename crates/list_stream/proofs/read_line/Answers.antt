@@ -31,5 +31,5 @@ returns-then-has_slot c =
     let f = slot_ends a.bytes.now yes in
     let e = c.list_slot.ensures in
     reads_line a.lister a.line.now a.line.now a.bytes.now a.out.now a.at c.requires c.requires.fit.size (slot (word_of (take 16 a.bytes.now)))
-    c.list_slot.result 17 _ _ (omega (arith, f.1)) (omega (arith, f.0, f.1)) (slot_line a.line.now a.bytes.now a.lister.kept c.else-begun-eq0.true yes)
-    e.session e.ends (record { place = e.place; buffer = e.buffer }) c.after_Line.ensures
+    c.list_slot.result 17 _ _ (omega (arith, f.1)) (omega (arith, f.0, f.1)) (slot_line a.line.now a.bytes.now a.lister.kept c.if-begun-eq0.true yes)
+    e.session e.ends (record { place = e.place; buffer = e.buffer }) c.after_line.ensures

@@ -8,7 +8,7 @@ use Rattle.list_stream.proofs.start.Goals as goal
 pub returns-in-Opened : goal.returns-in-Opened
 unfolding opened opened_receiver
 returns-in-Opened c =
-    (sym (receiver_opened_lem 4 4 _ (sym c.open.ensures.session ∙ ap opened_receiver c.receiver-1.given.1)).2, refl, refl)
+    (sym (receiver_opened_lem 4 4 _ (sym c.open.ensures.session ∙ ap opened_receiver c.in-Opened.is)).2, refl, refl)
 
 pub returns-in-Refused : goal.returns-in-Refused
 unfolding opened
