@@ -2,7 +2,6 @@
 use Rattle.std.specs.Prelude.{ℕ, ◌+◌, ◌*◌, ◌/◌, ◌%◌, ◌^◌, Bool, List, [], ◌∷◌, leb}
 use Rattle.code_theory.specs.Sum.{at}
 use Rattle.code_theory.specs.Question.{ask, is_message_size, all_below, Answer, accepted, refused, answer, after}
-use Rattle.strap.specs.declared.Report.{Report}
 use Rattle.strap.specs.declared.Packed.{Packed}
 use Rattle.strap.specs.declared.Packed.TheVariants as P
 use Rattle.strap.specs.declared.Unpacked.{Unpacked}

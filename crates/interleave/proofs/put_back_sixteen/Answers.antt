@@ -2,7 +2,6 @@
 use mathlib.Core.Path.{◌≡◌, refl, sym, ◌∙◌}
 use mathlib.Core.Bool.{true}
 use native.Mathlib.Omega.{arith}
-use borrow.Author.Tests.{not-true, not-false}
 use Rattle.interleave_theory.specs.Group.{is_group}
 use Rattle.interleave_theory.proofs.RefusalLaws.{refused_14}
 use Rattle.interleave_theory.proofs.GroupLaws.{group_yes, group_limit, sixteen_places, put_back_kept, put_back_checked, checked_as}

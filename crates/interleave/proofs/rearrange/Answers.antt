@@ -4,7 +4,6 @@ use mathlib.Core.Path.{◌≡◌, refl, ap, sym, ◌∙◌}
 use mathlib.Core.Bool.{true}
 use native.Mathlib.Nat.{mul_comm}
 use native.Mathlib.Omega.{arith}
-use borrow.Author.Tests.{not-true, not-false}
 use Rattle.code_theory.specs.Question.{is_alphabet, is_variables}
 use Rattle.code_theory.proofs.QuestionLaws.{variables_bounds}
 use Rattle.interleave_theory.specs.Group.{is_group}

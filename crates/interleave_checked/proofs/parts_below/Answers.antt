@@ -1,7 +1,5 @@
 -- `parts_below` meets its contract. The loop's invariant: the symbols of all parts asked about are below q.
-use mathlib.Core.Bool.{true}
 use native.Mathlib.Omega.{arith}
-use borrow.Author.Tests.{not-true, not-false}
 use Rattle.interleave_checked.proofs.EightLaws.{parts_none, parts_next, parts_no, parts_all}
 use Rattle.interleave_checked.proofs.parts_below.Goals as goal
 

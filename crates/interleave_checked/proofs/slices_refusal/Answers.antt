@@ -1,6 +1,5 @@
 -- `slices_refusal` meets its contract, by the answers to the questions asked so far.
 use mathlib.Core.Path.{sym, ◌∙◌}
-use borrow.Author.Tests.{not-true, not-false}
 use Rattle.interleave_theory.proofs.RefusalLaws.{refused_source, refused_target, refused_below, refused_none}
 use Rattle.interleave_checked.proofs.slices_refusal.Goals as goal
 

@@ -1,7 +1,6 @@
 -- `square` meets its contract, by the answers to the questions asked so far.
 use mathlib.Core.Path.{refl, sym, ◌∙◌}
 use native.Mathlib.Omega.{arith}
-use borrow.Author.Tests.{not-true, not-false}
 use Rattle.code_theory.proofs.QuestionLaws.{alphabet_positive}
 use Rattle.interleave_theory.proofs.RefusalLaws.{refused_source, refused_target, refused_below, refused_none}
 use Rattle.interleave_checked.proofs.SlicesLaws.{checked_no, checked_yes}

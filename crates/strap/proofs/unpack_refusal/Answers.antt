@@ -1,6 +1,5 @@
 -- `unpack_refusal` meets its contract, by the tests that led to each number.
 use mathlib.Core.Path.{sym, ap, ◌∙◌}
-use borrow.Author.Tests.{not-true, not-false}
 use Rattle.code_theory.specs.Question.{ask}
 use Rattle.strap.proofs.StrapLaws.{unpack_5, unpack_6}
 use Rattle.strap.proofs.unpack_refusal.Goals as goal
