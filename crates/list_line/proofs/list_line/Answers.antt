@@ -1,6 +1,5 @@
 -- `list_line` meets its contract, by the kinds of a line.
-use mathlib.Core.Path.{◌≡◌, sym, ap, ◌∙◌}
-use Rattle.text_lines.specs.Line.{slot, miss, bad, read_line}
+use mathlib.Core.Path.{sym, ap, ◌∙◌}
 use Rattle.text_lines.specs.Internal.{line_of}
 use Rattle.text_lines.proofs.LineLaws.{slot_reads}
 use Rattle.list_line.proofs.SlotLaws.{relisted, listed_as, told_bad}

@@ -16,9 +16,9 @@ slice_bounds-list_slot-end c =
 
 pub list_slot-requires : goal.list_slot-requires
 list_slot-requires c = (
-      record { alphabet = c.requires.fit.alphabet; variables = c.requires.fit.variables; room = c.requires.room },
-      (slot_ends c.args.bytes.now (sym c.has_slot.ensures ∙ c.if-has_slot.true)).2,
-    )
+  record { alphabet = c.requires.fit.alphabet; variables = c.requires.fit.variables; room = c.requires.room },
+  (slot_ends c.args.bytes.now (sym c.has_slot.ensures ∙ c.if-has_slot.true)).2,
+)
 
 pub after_line-requires : goal.after_line-requires
 after_line-requires c =

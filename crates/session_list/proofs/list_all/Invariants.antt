@@ -1,6 +1,5 @@
 -- The lister goes on from round to round, and the measure is the number of rounds that are left.
 use Prim.Native.Nat.{◌≤◌}
-use mathlib.Core.Path.{◌≡◌}
 use lib.ListN.{length}
 use Rattle.text_chunks.specs.Reading.{given}
 use Rattle.list_stream.specs.Stream.{Fit}
