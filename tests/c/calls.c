@@ -1,6 +1,7 @@
 /* read and write for the tests of session_list, loaded before the C library's own. By the environment:
    READ_MOST n, WRITE_MOST n     a call moves at most n bytes; 0 or not set: as many as it is asked for;
    READ_INTERRUPTED 1            every second read is interrupted by a signal and gives nothing;
+   WRITE_INTERRUPTED 1           every second write to standard output is interrupted by a signal and writes nothing;
    READ_FAILS n, WRITE_FAILS n   the n-th read, or the n-th write to standard output, fails. */
 #define _GNU_SOURCE
 #include <errno.h>
@@ -39,5 +40,6 @@ ssize_t write(int file, const void *buffer, size_t size)
 {
     static long calls = 0;
     if (file == STDOUT_FILENO && ++calls == setting("WRITE_FAILS")) return failure(ENOSPC);
+    if (file == STDOUT_FILENO && setting("WRITE_INTERRUPTED") && calls % 2 == 1) return failure(EINTR);
     return syscall(SYS_write, file, buffer, file == STDOUT_FILENO ? at_most("WRITE_MOST", size) : size);
 }

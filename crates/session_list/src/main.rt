@@ -57,12 +57,22 @@ fn end() -> Place
     }
 }
 
+// Says on standard error what failed and the system's words for it, without the number that std puts behind them.
+fn tell(rt: &HostRuntime, doing: &str, error: io::Error) -> io::Result<()> {
+    let text = format!(in rt.alloc(); "{error}")?;
+    let all = text.as_str();
+    let words = match all.split_once(" (os error ") {
+        Some((words, _)) => words,
+        None => all,
+    };
+    eprintln!(rt; "session_list: {doing}: {words}")
+}
+
 // The end after a failed read, which is told.
 fn failed(rt: &HostRuntime, error: i32) -> Place
     ensures { (given result.got ≡ 0) × (result.at ≡ 0) × (result.more ≡ false) }
 {
-    let e = io::Error::from_raw_os_error(error);
-    let _ = eprintln!(rt; "session_list: reading: {e}");
+    let _ = tell(rt, "reading", io::Error::from_raw_os_error(error));
     end()
 }
 
@@ -94,7 +104,7 @@ fn write(rt: &HostRuntime, out: &[u8], n: usize) -> bool
     match Write::write_all(&mut rt.stdout(), &out[..n]) {
         Ok(()) => true,
         Err(e) => {
-            let _ = eprintln!(rt; "session_list: writing: {e}");
+            let _ = tell(rt, "writing", e);
             false
         }
     }
