@@ -14,6 +14,7 @@ pub enum Moved {
 }
 
 // Question 14: the count of words is from 1 to 16.
+#[tactic(auto, unfolding(interleave_theory::specs::Group::is_group))]
 fn is_group(count: u32) -> bool
     ensures { result ≡ is_group count }
 {

@@ -76,7 +76,7 @@ module _ (x : ℕ → Complex Float) (z : ℕ → Complex ℤ) (b : ℕ) where
       record { re = whole_add _ _ _ _ s.re t.re (omega (arith, v.re)); im = whole_add _ _ _ _ s.im t.im (omega (arith, v.im)) }
 
 -- ---- the samples at the 2 ^ m places
--- EXACT VOTES: both sums are the exact whole_number sums, at most 128 * 2 * 127 * 127 in magnitude
+-- EXACT VOTES: both sums are the exact whole-number sums, at most 128 * 2 * 127 * 127 in magnitude
 pub vote_sums_whole : (m k : ℕ) (y : ℕ → Complex Float) (z : ℕ → Complex ℤ) → k < m → m ≤ 8
     → ((i : ℕ) → i < 2 ^ m → WholeParts (y i) (z i)) → ((i : ℕ) → i < 2 ^ m → Within 127 (z i))
     → WholeParts (vote_sums f32 m k y) (vote_sums integers m k z) × Within 4129024 (vote_sums integers m k z)

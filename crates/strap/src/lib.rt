@@ -66,6 +66,7 @@ pub fn rate_of(message: &[u8]) -> u8
 }
 
 // Questions 5 and 13.
+#[tactic(auto, unfolding(crate::specs::Strap::pack_refusal, crate::specs::Strap::is_zone, code_theory::specs::Question::ask, code_theory::specs::Question::is_message_size))]
 fn pack_refusal(message: &[u8], zone: u8) -> u32
     ensures { result ≡ pack_refusal message.now zone }
 {
@@ -79,6 +80,7 @@ fn pack_refusal(message: &[u8], zone: u8) -> u32
 }
 
 // Questions 5 and 6.
+#[tactic(auto, unfolding(crate::specs::Strap::unpack_refusal, code_theory::specs::Question::ask, code_theory::specs::Question::is_message_size))]
 fn unpack_refusal(message: &[u8]) -> u32
     ensures { result ≡ unpack_refusal message.now }
 {

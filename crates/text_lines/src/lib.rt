@@ -14,6 +14,7 @@ pub enum Kind {
 }
 
 // Whether the byte is a digit 0 to 3.
+#[tactic(auto, unfolding(crate::specs::Line::is_digit))]
 fn is_digit(b: u8) -> bool
     ensures { result ≡ is_digit b }
 {
@@ -44,6 +45,7 @@ pub fn line_length(bytes: &[u8]) -> usize
 }
 
 // Whether the line is a slot: 16 digits 0 to 3.
+#[tactic(auto, unfolding(crate::specs::Line::is_slot))]
 fn is_slot(line: &[u8]) -> bool
     ensures { result ≡ is_slot line.now }
 {
@@ -51,6 +53,7 @@ fn is_slot(line: &[u8]) -> bool
 }
 
 // Whether the line is a miss: `-`.
+#[tactic(auto, unfolding(crate::specs::Line::is_miss))]
 fn is_miss(line: &[u8]) -> bool
     ensures { result ≡ is_miss line.now }
 {
@@ -71,6 +74,7 @@ pub fn kind_of(line: &[u8]) -> Kind
 }
 
 // Whether the bytes begin with a slot and the newline behind it.
+#[tactic(auto, unfolding(crate::specs::Internal::has_slot))]
 pub fn has_slot(bytes: &[u8]) -> bool
     ensures { result ≡ has_slot bytes.now }
 {

@@ -1,4 +1,4 @@
--- `top_below` meets its contract. The loop's invariant: top is the largest of the symbols passed.
+-- `top_below` meets its contract.
 use native.Mathlib.Omega.{arith}
 use Rattle.code_questions.proofs.Top.{top_none, top_next, top_tells}
 use Rattle.code_questions.proofs.top_below.Goals as goal

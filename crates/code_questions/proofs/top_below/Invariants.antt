@@ -1,4 +1,4 @@
--- `top_below` meets its contract. The loop's invariant: top is the largest of the symbols passed.
+-- The loop's invariant: top is the largest of the symbols passed.
 use Prim.Native.Nat.{◌≤◌, ◌-◌}
 use Rattle.code_questions.proofs.Top.{Top}
 use Rattle.code_questions.proofs.top_below.Given as goal

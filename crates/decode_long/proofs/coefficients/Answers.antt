@@ -1,4 +1,4 @@
--- `coefficients` meets its contract. The loop's invariant: the winners of the first k coefficients stand in the message.
+-- `coefficients` meets its contract.
 use native.Mathlib.Omega.{arith}
 use Rattle.code_theory.proofs.WordLaws.{bounds}
 use Rattle.decode_long_winner.proofs.WinnerLaws.{alone, next_le}

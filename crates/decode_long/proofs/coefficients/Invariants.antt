@@ -1,4 +1,4 @@
--- `coefficients` meets its contract. The loop's invariant: the winners of the first k coefficients stand in the message.
+-- The loop's invariant: the winners of the first k coefficients stand in the message.
 use Prim.Native.Nat.{◌≤◌, ◌-◌}
 use Rattle.decode_long.specs.Internal.{FirstWinnersOf}
 use Rattle.decode_long.proofs.coefficients.Given as goal

@@ -1,4 +1,4 @@
--- `difference_tally` meets its contract. The loop's invariant: t is the sum of the units of the first i numbers.
+-- `difference_tally` meets its contract.
 use native.Mathlib.Omega.{arith}
 use Rattle.swar_lanes.proofs.LaneLaws.{less_below}
 use Rattle.decode_long_tally.proofs.TallyLaws.{listed, differences_none, differences_next, differences_all}

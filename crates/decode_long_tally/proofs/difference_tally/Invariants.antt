@@ -1,4 +1,4 @@
--- `difference_tally` meets its contract. The loop's invariant: t is the sum of the units of the first i numbers.
+-- The loop's invariant: t is the sum of the units of the first i numbers.
 use Prim.Native.Nat.{◌-◌, ◌≤◌}
 use Rattle.decode_long_tally.proofs.TallyLaws.{Differing}
 use Rattle.decode_long_tally.proofs.difference_tally.Given as goal

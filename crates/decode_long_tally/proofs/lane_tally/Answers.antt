@@ -1,4 +1,4 @@
--- `lane_tally` meets its contract. The loop's invariant: e has the bytes of d from byte i on, and t the units of the lanes below.
+-- `lane_tally` meets its contract.
 use native.Mathlib.Omega.{arith}
 use Rattle.decode_long_tally.proofs.TallyLaws.{lane_below, byte_start, byte_next, units_none, units_next, units_fit, units_all}
 use Rattle.decode_long_tally.proofs.lane_tally.Goals as goal

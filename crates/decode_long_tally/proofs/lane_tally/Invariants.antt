@@ -1,4 +1,4 @@
--- `lane_tally` meets its contract. The loop's invariant: e has the bytes of d from byte i on, and t the units of the lanes below.
+-- The loop's invariant: e has the bytes of d from byte i on, and t the units of the lanes below.
 use Prim.Native.Nat.{◌≤◌, ◌-◌, ◌*◌, ◌/◌, ◌^◌}
 use mathlib.Core.Path.{◌≡◌}
 use Rattle.decode_long_tally.proofs.TallyLaws.{lane_units}

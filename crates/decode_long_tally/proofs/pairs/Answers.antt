@@ -1,4 +1,4 @@
--- `pairs` meets its contract. The loop's invariant: the rows below b are filled.
+-- `pairs` meets its contract.
 use native.Mathlib.Omega.{arith}
 use Rattle.decode_long_tally.proofs.PairLaws.{rows_none, rows_next, rows_all}
 use Rattle.decode_long_tally.proofs.pairs.Goals as goal

@@ -1,4 +1,4 @@
--- `pairs` meets its contract. The loop's invariant: the rows below b are filled.
+-- The loop's invariant: the rows below b are filled.
 use Prim.Native.Nat.{◌≤◌, ◌-◌}
 use Rattle.decode_long_tally.specs.Internal.{Pairs}
 use Rattle.decode_long_tally.proofs.pairs.Given as goal

@@ -1,4 +1,4 @@
--- `row` meets its contract. The loop's invariant: the first a entries are filled.
+-- `row` meets its contract.
 use native.Mathlib.Omega.{arith}
 use Rattle.decode_long_tally.proofs.PairLaws.{row_none, row_next, row_all}
 use Rattle.decode_long_tally.proofs.TallyLaws.{unit_le}

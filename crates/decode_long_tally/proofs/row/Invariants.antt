@@ -1,4 +1,4 @@
--- `row` meets its contract. The loop's invariant: the first a entries are filled.
+-- The loop's invariant: the first a entries are filled.
 use Prim.Native.Nat.{◌≤◌, ◌-◌}
 use Rattle.decode_long_tally.specs.Internal.{Row}
 use Rattle.decode_long_tally.proofs.row.Given as goal

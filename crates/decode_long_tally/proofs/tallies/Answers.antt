@@ -1,4 +1,4 @@
--- `tallies` meets its contract. The loop's invariant: the first k tallies stand.
+-- `tallies` meets its contract.
 use native.Mathlib.Omega.{arith}
 use Rattle.decode_long_tally.proofs.CountLaws.{tallied_none, tallied_all}
 use Rattle.decode_long_tally.proofs.tallies.Goals as goal

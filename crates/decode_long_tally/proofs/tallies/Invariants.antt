@@ -1,4 +1,4 @@
--- `tallies` meets its contract. The loop's invariant: the first k tallies stand.
+-- The loop's invariant: the first k tallies stand.
 use Prim.Native.Nat.{◌≤◌, ◌-◌}
 use Rattle.decode_long_tally.specs.Internal.{TalliesOf}
 use Rattle.decode_long_tally.proofs.tallies.Given as goal

@@ -1,4 +1,4 @@
--- `tally` meets its contract. The loop's invariant: t is the sum of the units of the first j ballots.
+-- `tally` meets its contract.
 use native.Mathlib.Omega.{arith}
 use Rattle.decode_long_tally.proofs.TallyLaws.{few_ballots, ballots_none, reach, listed, ballots_next, ballots_all}
 use Rattle.decode_long_tally.proofs.tally.Goals as goal

@@ -1,4 +1,4 @@
--- `tally` meets its contract. The loop's invariant: t is the sum of the units of the first j ballots.
+-- The loop's invariant: t is the sum of the units of the first j ballots.
 use Prim.Native.Nat.{◌-◌, ◌^◌, ◌≤◌}
 use mathlib.Core.Path.{◌≡◌}
 use Rattle.decode_long_tally.proofs.TallyLaws.{Balloted}

@@ -1,5 +1,4 @@
--- `winner_of` meets its contract. The loop's invariant: a and b are the tallies with v - 1 digits taken off, and r leads among the values
--- below v.
+-- `winner_of` meets its contract.
 use native.Mathlib.Omega.{arith}
 use Rattle.code_theory.proofs.QuestionLaws.{alphabet, alphabet_bounds}
 use Rattle.decode_long_winner.proofs.CounterLaws.{digit_first, digit_start, digit_next, digit_shift}

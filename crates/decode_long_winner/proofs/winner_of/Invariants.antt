@@ -1,5 +1,4 @@
--- `winner_of` meets its contract. The loop's invariant: a and b are the tallies with v - 1 digits taken off, and r leads among the values
--- below v.
+-- The loop's invariant: a and b are the tallies with v - 1 digits taken off, and r leads among the values below v.
 use Prim.Native.Nat.{◌≤◌, ◌*◌, ◌-◌, ◌/◌, ◌^◌}
 use mathlib.Core.Path.{◌≡◌}
 use Rattle.decode_long_winner.specs.Internal.{Leads, together}

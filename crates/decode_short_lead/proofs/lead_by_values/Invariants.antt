@@ -1,4 +1,4 @@
--- `lead_by_values` meets its contract. The loop's invariant: bad and next are the sum and the maximum of the votes for 1 to v - 1.
+-- The loop's invariant: bad and next are the sum and the maximum of the votes for 1 to v - 1.
 use Prim.Native.Nat.{◌≤◌, ◌-◌}
 use mathlib.Core.Path.{◌≡◌}
 use Rattle.code_theory.specs.Internal.{sum_from1, max_from1}

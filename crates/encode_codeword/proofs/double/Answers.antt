@@ -1,4 +1,4 @@
--- `double` meets its contract. The loop's invariant: the first 8 c places from 8 n on are filled.
+-- `double` meets its contract.
 use Prim.Native.Nat.{◌+◌, ◌*◌, ◌%◌}
 use mathlib.Core.Path.{◌∙◌, ap}
 use native.Mathlib.Omega.{arith}

@@ -1,4 +1,4 @@
--- `double` meets its contract. The loop's invariant: the first 8 c places from 8 n on are filled.
+-- The loop's invariant: the first 8 c places from 8 n on are filled.
 use Prim.Native.Nat.{◌*◌, ◌≤◌, ◌-◌}
 use Rattle.encode_codeword.specs.Internal.{Doubled}
 use Rattle.encode_codeword.proofs.double.Given as goal

@@ -1,4 +1,4 @@
--- `double_each` meets its contract. The loop's invariant: the first i places from n on are filled.
+-- `double_each` meets its contract.
 use native.Mathlib.Omega.{arith}
 use Rattle.code_theory.proofs.QuestionLaws.{alphabet, alphabet_bounds}
 use Rattle.encode_codeword.proofs.Doubling.{doubled_none, doubled_next, doubled_all}

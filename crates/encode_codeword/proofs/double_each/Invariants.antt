@@ -1,4 +1,4 @@
--- `double_each` meets its contract. The loop's invariant: the first i places from n on are filled.
+-- The loop's invariant: the first i places from n on are filled.
 use Prim.Native.Nat.{◌≤◌, ◌-◌}
 use Rattle.encode_codeword.specs.Internal.{Doubled}
 use Rattle.encode_codeword.proofs.double_each.Given as goal

@@ -1,4 +1,4 @@
--- `write_each_of_64` meets its contract. The loop's invariant: the first i places are written.
+-- `write_each_of_64` meets its contract.
 use mathlib.Core.Path.{◌∙◌}
 use native.Mathlib.Omega.{arith}
 use Rattle.encode_codeword.proofs.Doubling.{begun_none, begun_next, begun_all, six_symbol, fits_small}

@@ -1,4 +1,4 @@
--- `write_each_of_64` meets its contract. The loop's invariant: the first i places are written.
+-- The loop's invariant: the first i places are written.
 use Prim.Native.Nat.{◌-◌}
 use lib.ListN.{length}
 use Rattle.encode_codeword.proofs.Doubling.{Begun}

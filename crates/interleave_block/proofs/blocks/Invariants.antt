@@ -1,4 +1,4 @@
--- `blocks` meets its contract. The loop's invariant: the blocks passed are done.
+-- The loop's invariant: the blocks passed are done.
 use Prim.Native.Nat.{◌*◌, ◌/◌, ◌-◌, ◌≤◌}
 use Rattle.interleave_block.specs.Internal.{Done}
 use Rattle.interleave_block.proofs.blocks.Given as goal

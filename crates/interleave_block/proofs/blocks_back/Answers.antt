@@ -1,4 +1,4 @@
--- `blocks_back` meets its contract. The loop's invariant: the blocks passed are done.
+-- `blocks_back` meets its contract.
 use Prim.Native.Nat.{◌+◌, ◌*◌}
 use mathlib.Core.Path.{refl, sym, ◌∙◌}
 use native.Mathlib.Omega.{arith}

@@ -1,4 +1,4 @@
--- `copy` meets its contract. The loop's invariant: the symbols passed are copied, and nothing else is changed.
+-- `copy` meets its contract.
 use native.Mathlib.Omega.{arith}
 use Rattle.interleave_block.proofs.CopyLaws.{copied_start, copied_next, copied_all}
 use Rattle.interleave_block.proofs.copy.Goals as goal

@@ -1,4 +1,4 @@
--- `copy` meets its contract. The loop's invariant: the symbols passed are copied, and nothing else is changed.
+-- The loop's invariant: the symbols passed are copied, and nothing else is changed.
 use Prim.Native.Nat.{◌-◌, ◌≤◌}
 use Rattle.interleave_block.specs.Internal.{Copied}
 use Rattle.interleave_block.proofs.copy.Given as goal

@@ -1,4 +1,4 @@
--- `copy_rows` meets its contract. The loop's invariant: the rows passed are copied, and nothing else is changed.
+-- `copy_rows` meets its contract.
 use Prim.Native.Nat.{ℕ, ◌*◌, ◌≤◌, ◌<◌}
 use native.Mathlib.Nat.{mul-le-mul_right}
 use native.Mathlib.Omega.{arith}

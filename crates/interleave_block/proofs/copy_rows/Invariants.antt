@@ -1,4 +1,4 @@
--- `copy_rows` meets its contract. The loop's invariant: the rows passed are copied, and nothing else is changed.
+-- The loop's invariant: the rows passed are copied, and nothing else is changed.
 use Prim.Native.Nat.{◌-◌, ◌≤◌}
 use Rattle.interleave_block.specs.Internal.{RowsCopied}
 use Rattle.interleave_block.proofs.copy_rows.Given as goal

@@ -1,4 +1,4 @@
--- `shuffle_times` meets its contract. The loop's invariant: as many rounds are done as the loop has made.
+-- `shuffle_times` meets its contract.
 use mathlib.Core.Path.{refl, sym, ◌∙◌}
 use native.Mathlib.Omega.{arith}
 use Rattle.interleave_shuffle.proofs.ShuffleLaws.{rounds_next}

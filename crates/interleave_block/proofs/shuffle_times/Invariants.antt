@@ -1,4 +1,4 @@
--- `shuffle_times` meets its contract. The loop's invariant: as many rounds are done as the loop has made.
+-- The loop's invariant: as many rounds are done as the loop has made.
 use Prim.Native.Nat.{◌-◌, ◌≤◌}
 use mathlib.Core.Path.{◌≡◌}
 use lib.ListN.{length}

@@ -1,4 +1,4 @@
--- `eights_below` meets its contract. The loop's invariant: the bytes of all are those of the symbols passed, put together.
+-- `eights_below` meets its contract.
 use mathlib.Core.Path.{refl}
 use native.Mathlib.Omega.{arith}
 use Rattle.interleave_checked.proofs.EightLaws.{gathered_none, gathered_next, eights_tell}

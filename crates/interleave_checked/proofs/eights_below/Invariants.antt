@@ -1,4 +1,4 @@
--- `eights_below` meets its contract. The loop's invariant: the bytes of all are those of the symbols passed, put together.
+-- The loop's invariant: the bytes of all are those of the symbols passed, put together.
 use Prim.Native.Nat.{◌≤◌, ◌-◌}
 use Rattle.interleave_checked.proofs.EightLaws.{Gathered}
 use Rattle.interleave_checked.proofs.eights_below.Given as goal

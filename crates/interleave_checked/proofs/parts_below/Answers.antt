@@ -1,4 +1,4 @@
--- `parts_below` meets its contract. The loop's invariant: the symbols of all parts asked about are below q.
+-- `parts_below` meets its contract.
 use native.Mathlib.Omega.{arith}
 use Rattle.interleave_checked.proofs.EightLaws.{parts_none, parts_next, parts_no, parts_all}
 use Rattle.interleave_checked.proofs.parts_below.Goals as goal

@@ -1,4 +1,4 @@
--- `parts_below` meets its contract. The loop's invariant: the symbols of all parts asked about are below q.
+-- The loop's invariant: the symbols of all parts asked about are below q.
 use Prim.Native.Nat.{◌*◌, ◌-◌, ◌≤◌}
 use mathlib.Core.Bool.{true}
 use Rattle.code_questions.specs.Internal.{Tells}

@@ -1,4 +1,4 @@
--- `column` meets its contract. The loop's invariant: the rows before this one, and the symbols passed of it, stand where they must.
+-- `column` meets its contract.
 use Prim.Native.Nat.{◌+◌, ◌*◌}
 use mathlib.Core.Path.{refl, ◌∙◌}
 use native.Mathlib.Nat.{mul-le-mul_right}

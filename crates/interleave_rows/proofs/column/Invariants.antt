@@ -1,4 +1,4 @@
--- `column` meets its contract. The loop's invariant: the rows before this one, and the symbols passed of it, stand where they must.
+-- The loop's invariant: the rows before this one, and the symbols passed of it, stand where they must.
 use Prim.Native.Nat.{◌-◌, ◌≤◌}
 use mathlib.Core.Path.{◌≡◌}
 use lib.ListN.{length}

@@ -1,4 +1,4 @@
--- `columns` meets its contract. The loop's invariant: the symbols of the rows passed stand where they must.
+-- `columns` meets its contract.
 use mathlib.Core.Path.{refl, ◌∙◌}
 use native.Mathlib.Omega.{arith}
 use Rattle.interleave_rows.proofs.ColumnLaws.{none_scattered, scattered_all}

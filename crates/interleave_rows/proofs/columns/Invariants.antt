@@ -1,4 +1,4 @@
--- `columns` meets its contract. The loop's invariant: the symbols of the rows passed stand where they must.
+-- The loop's invariant: the symbols of the rows passed stand where they must.
 use Prim.Native.Nat.{◌-◌, ◌≤◌}
 use mathlib.Core.Path.{◌≡◌}
 use lib.ListN.{length}

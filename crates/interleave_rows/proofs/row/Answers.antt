@@ -1,4 +1,4 @@
--- `row` meets its contract. The loop's invariant: the places passed are as they must be.
+-- `row` meets its contract.
 use Prim.Native.Nat.{ℕ, ◌+◌, ◌*◌}
 use mathlib.Core.Path.{refl, sym, ◌∙◌}
 use native.Mathlib.Nat.{mul_comm, mul-le-mul_right}

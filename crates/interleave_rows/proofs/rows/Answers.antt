@@ -1,4 +1,4 @@
--- `rows` meets its contract. The loop's invariant: the rows passed are as they must be.
+-- `rows` meets its contract.
 use Prim.Native.Nat.{◌+◌, ◌*◌}
 use mathlib.Core.Path.{◌≡◌, refl, ap, ◌∙◌}
 use native.Mathlib.Nat.{mul_comm, add-mul, one-mul}

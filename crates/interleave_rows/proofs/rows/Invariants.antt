@@ -1,4 +1,4 @@
--- `rows` meets its contract. The loop's invariant: the rows passed are as they must be.
+-- The loop's invariant: the rows passed are as they must be.
 use Prim.Native.Nat.{◌*◌, ◌-◌, ◌≤◌}
 use mathlib.Core.Path.{◌≡◌}
 use lib.ListN.{length}

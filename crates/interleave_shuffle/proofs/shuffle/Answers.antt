@@ -1,4 +1,4 @@
--- `shuffle` meets its contract. The loop's invariant: the places passed are as they must be.
+-- `shuffle` meets its contract.
 use Prim.Native.Nat.{ℕ, ◌+◌, ◌*◌, ◌<◌}
 use mathlib.Core.Path.{◌≡◌, refl, ap, sym, ◌∙◌}
 use native.Mathlib.Omega.{arith}

@@ -1,4 +1,4 @@
--- `feed` meets its contract. The loop's invariant: the bytes passed are listed.
+-- `feed` meets its contract.
 use mathlib.Core.Path.{sym, ◌∙◌}
 use native.Mathlib.Nat.{zero-add}
 use native.Mathlib.Omega.{arith}
@@ -45,7 +45,7 @@ shape_of-out-then-out-written-lt64 c = c.loop-read.invariant.2.size
 pub returns-then-out-written-lt64 : goal.returns-then-out-written-lt64
 returns-then-out-written-lt64 c =
     let r = c.loop-read.invariant.2 in
-    let done = run_done reader _ _ _ c.loop-read.read _ _ _ c.loop-read.invariant.0 r (count_full reader _ _ _ (omega (arith, c.if-out-written-lt64.true, r.size, r.room))) in
+    let done = run_done reader _ _ _ c.loop-read.read _ _ _ c.loop-read.invariant.0 r (count_full reader _ _ _ (omega (arith, r.size, r.room))) in
     record {
       state = r.state;
       count = r.text.place ∙ zero-add _;
@@ -67,7 +67,7 @@ read_line-s-requires c =
       fit = c.loop-read.invariant.1;
       on = c.if-over.false;
       some = omega (arith, n, c.loop-read-test.true);
-      room = omega (arith, c.if-out-written-lt64.false, r.room, r.size);
+      room = omega (arith, r.room, r.size);
     }
 
 pub overflow_add-read : goal.overflow_add-read

@@ -1,4 +1,4 @@
--- `feed` meets its contract. The loop's invariant: the bytes passed are listed.
+-- The loop's invariant: the bytes passed are listed.
 use Prim.Native.Nat.{◌≤◌, ◌-◌}
 use lib.ListN.{length, take}
 use Rattle.text_chunks.proofs.PartLaws.{Run}

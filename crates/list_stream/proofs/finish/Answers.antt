@@ -1,6 +1,6 @@
 -- `finish` meets its contract: nothing once the reading has ended or where no line has begun, else the last line.
 use Prim.Native.Nat.{◌<◌}
-use mathlib.Core.Path.{sym, ap, ◌∙◌}
+use mathlib.Core.Path.{◌≡◌, sym, ap, ◌∙◌}
 use native.Mathlib.Nat.{zero-add}
 use native.Mathlib.Omega.{arith}
 use lib.ListN.{length, take}
@@ -29,7 +29,8 @@ unfolding progress last_text
 returns-then-kept-eq0 c =
     let a = c.args in
     let p = progress a.lister a.line.now in
-    let e = end_last reader p c.if-over.false ∙ ap (λ k. last_text reader a.lister.receiver (take k a.line.now)) c.if-kept-eq0.true in
+    let none : a.lister.kept ≡ 0 = omega arith in
+    let e = end_last reader p c.if-over.false ∙ ap (λ k. last_text reader a.lister.receiver (take k a.line.now)) none in
     record {
       count = ap length (sym e);
       buffer = sym (put_none a.out.now 0) ∙ ap (put a.out.now 0) (sym e);
@@ -46,7 +47,7 @@ returns c =
     let a = c.args in
     let p = progress a.lister a.line.now in
     let n = length-take-le a.lister.kept a.line.now (omega (arith, c.requires.0.kept, c.requires.0.size)) in
-    let some : 0 < length (take a.lister.kept a.line.now) = omega (arith, n, c.if-kept-eq0.false) in
+    let some : 0 < length (take a.lister.kept a.line.now) = omega (arith, n) in
     let e = end_line p c.if-over.false some in
     let l = c.list_line-listed.ensures in
     let w = written_as {b = a.out.now} {at = 0} (sym e) (record { place = l.place; buffer = l.buffer }) in

@@ -23,7 +23,7 @@ overflow_cast-n c =
 pub returns-then-n-eq0 : goal.returns-then-n-eq0
 returns-then-n-eq0 c =
     let e = c.finish-written.ensures in
-    round_end _ _ _ _ _ _ _ _ _ c.args.got _ (to_z-of_z c.ranges.got) c.if-got-lt0.false c.if-n-eq0.true
+    round_end _ _ _ _ _ _ _ _ _ c.args.got _ (to_z-of_z c.ranges.got) c.if-got-lt0.false (omega arith)
     (record { lister = refl; kept = refl; count = e.count; buffer = e.buffer; then = refl; room = e.bound; fit = c.requires.0 })
 
 pub slice_bounds-list_part-end : goal.slice_bounds-list_part-end
@@ -37,4 +37,4 @@ list_part-requires c =
 
 pub returns : goal.returns
 returns c =
-    round_part _ _ _ _ _ _ _ _ _ c.args.got _ (to_z-of_z c.ranges.got) c.if-got-lt0.false c.if-n-eq0.false c.list_part.ensures
+    round_part _ _ _ _ _ _ _ _ _ c.args.got _ (to_z-of_z c.ranges.got) c.if-got-lt0.false (omega arith) c.list_part.ensures

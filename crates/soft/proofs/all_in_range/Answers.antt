@@ -1,4 +1,4 @@
--- `all_in_range` meets its contract. The loop's invariant: all says whether the parts passed are in range.
+-- `all_in_range` meets its contract.
 use mathlib.Core.Path.{refl}
 use native.Mathlib.Omega.{arith}
 use Rattle.soft.proofs.Range.{range_start, range_next, range_both}

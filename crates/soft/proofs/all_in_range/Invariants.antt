@@ -1,4 +1,4 @@
--- `all_in_range` meets its contract. The loop's invariant: all says whether the parts passed are in range.
+-- The loop's invariant: all says whether the parts passed are in range.
 use Prim.Native.Nat.{◌≤◌, ◌-◌}
 use mathlib.Core.Path.{◌≡◌}
 use mathlib.Core.Bool.{◌&&◌}

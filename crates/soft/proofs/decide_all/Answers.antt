@@ -1,4 +1,4 @@
--- `decide_all` meets its contract. The loop's invariant: the first k coefficients are sure and stand in found.
+-- `decide_all` meets its contract.
 use mathlib.Core.Path.{ap, sym, ◌∙◌}
 use native.Mathlib.Omega.{arith}
 use mathlib.Core.Bool.{not, false≢true}

@@ -1,4 +1,4 @@
--- `decide_all` meets its contract. The loop's invariant: the first k coefficients are sure and stand in found.
+-- The loop's invariant: the first k coefficients are sure and stand in found.
 use Prim.Native.Nat.{◌≤◌, ◌-◌}
 use mathlib.Core.Path.{◌≡◌}
 use mathlib.Core.Bool.{true}

@@ -1,4 +1,4 @@
--- `add_row` meets its contract. The loop's invariant: s has the first x votes of the row more.
+-- `add_row` meets its contract.
 use mathlib.Core.Path.{ap, ap₂, ◌∙◌}
 use native.Mathlib.Omega.{arith}
 use Rattle.soft_theory.specs.Numbers.{f32}

@@ -1,4 +1,4 @@
--- `add_row` meets its contract. The loop's invariant: s has the first x votes of the row more.
+-- The loop's invariant: s has the first x votes of the row more.
 use Prim.Native.Nat.{◌+◌, ◌*◌, ◌-◌, ◌≤◌}
 use mathlib.Core.Path.{◌≡◌}
 use Rattle.soft_theory.specs.Numbers.{f32}

@@ -1,4 +1,4 @@
--- `eight_sums` meets its contract. The loop's invariant: each pair of sums has the first j votes of its coefficient.
+-- `eight_sums` meets its contract.
 use Prim.Native.Nat.{◌*◌, ◌^◌}
 use mathlib.Core.Path.{◌≡◌, refl}
 use mathlib.Core.List.{[], ◌∷◌}

@@ -1,4 +1,4 @@
--- `low_sums` meets its contract. The loop's invariant: the sums below k are stored.
+-- `low_sums` meets its contract.
 use native.Mathlib.Omega.{arith}
 use Rattle.soft_all_sums.specs.Internal.{sums_of}
 use Rattle.soft_all_sums.proofs.RowLaws.{stored_none, stored_next, stored_all}

@@ -1,4 +1,4 @@
--- `low_sums` meets its contract. The loop's invariant: the sums below k are stored.
+-- The loop's invariant: the sums below k are stored.
 use Prim.Native.Nat.{◌-◌, ◌≤◌}
 use Rattle.soft_all_sums.specs.Internal.{sums_of, Stored}
 use Rattle.soft_all_sums.proofs.low_sums.Given as goal

@@ -1,4 +1,4 @@
--- `put_row` meets its contract. The loop's invariant: the first x votes are put.
+-- `put_row` meets its contract.
 use Prim.Native.Nat.{◌+◌, ◌*◌, ◌%◌}
 use mathlib.Core.Path.{ap, sym, ◌∙◌}
 use native.Mathlib.Omega.{arith}

@@ -1,4 +1,4 @@
--- `put_row` meets its contract. The loop's invariant: the first x votes are put.
+-- The loop's invariant: the first x votes are put.
 use Prim.Native.Nat.{◌-◌, ◌≤◌}
 use Rattle.soft_all_sums.specs.Internal.{Put}
 use Rattle.soft_all_sums.proofs.put_row.Given as goal

@@ -1,4 +1,4 @@
--- `put_rows` meets its contract. The loop's invariant: the rows below k are put.
+-- `put_rows` meets its contract.
 use mathlib.Core.Path.{sym, ◌∙◌}
 use native.Mathlib.Omega.{arith}
 use Rattle.soft_all_sums.proofs.RowLaws.{rows_none, rows_next, rows_all}

@@ -1,4 +1,4 @@
--- `put_rows` meets its contract. The loop's invariant: the rows below k are put.
+-- The loop's invariant: the rows below k are put.
 use Prim.Native.Nat.{◌-◌, ◌≤◌}
 use Rattle.soft_all_sums.specs.Internal.{Rows}
 use Rattle.soft_all_sums.proofs.put_rows.Given as goal

@@ -1,4 +1,4 @@
--- `sixteen_sums` meets its contract. The loop's invariant: each pair of sums has the first j votes of its coefficient.
+-- `sixteen_sums` meets its contract.
 use Prim.Native.Nat.{◌*◌, ◌^◌}
 use mathlib.Core.Path.{◌≡◌, refl}
 use mathlib.Core.List.{[], ◌∷◌}

@@ -1,4 +1,4 @@
--- `sixteen_sums` meets its contract. The loop's invariant: each pair of sums has the first j votes of its coefficient.
+-- The loop's invariant: each pair of sums has the first j votes of its coefficient.
 use Prim.Native.Nat.{◌≤◌, ◌-◌}
 use mathlib.Core.Path.{◌≡◌}
 use Rattle.soft_vote_sums.specs.Pair.{pair}

@@ -1,4 +1,4 @@
--- `constant_sums` meets its contract. The loop's invariant: all is the sums of the first 2 b samples, turned back.
+-- `constant_sums` meets its contract.
 use Prim.Native.Nat.{◌+◌, ◌*◌}
 use mathlib.Core.Path.{refl}
 use native.Mathlib.Omega.{arith}

@@ -1,4 +1,4 @@
--- `vote_sums` meets its contract. The loop's invariant: s is the sums of the first 2 b votes.
+-- `vote_sums` meets its contract.
 use Prim.Native.Nat.{◌+◌, ◌*◌}
 use mathlib.Core.Path.{refl}
 use native.Mathlib.Omega.{arith}

@@ -1,4 +1,4 @@
--- `vote_sums` meets its contract. The loop's invariant: s is the sums of the first 2 b votes.
+-- The loop's invariant: s is the sums of the first 2 b votes.
 use Prim.Native.Nat.{◌*◌, ◌-◌, ◌/◌, ◌≤◌}
 use mathlib.Core.Path.{◌≡◌}
 use lib.ListN.{length}

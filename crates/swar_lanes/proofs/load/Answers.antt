@@ -1,4 +1,4 @@
--- `load` meets its contract. The loop's invariant: the first j numbers are loaded.
+-- `load` meets its contract.
 use native.Mathlib.Omega.{arith}
 use Rattle.swar_lanes.proofs.LoadLaws.{loaded_none, loaded_next, loaded_all}
 use Rattle.swar_lanes.proofs.load.Goals as goal

@@ -1,4 +1,4 @@
--- `load` meets its contract. The loop's invariant: the first j numbers are loaded.
+-- The loop's invariant: the first j numbers are loaded.
 use Prim.Native.Nat.{◌≤◌, ◌-◌}
 use mathlib.Core.Path.{◌≡◌}
 use lib.ListN.{length}

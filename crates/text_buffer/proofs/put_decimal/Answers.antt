@@ -1,4 +1,4 @@
--- `put_decimal` meets its contract. The loop's invariant: the last digits stand behind the place of those that are left.
+-- `put_decimal` meets its contract.
 use Prim.Native.Nat.{◌+◌}
 use mathlib.Core.Path.{refl, ap, ◌∙◌}
 use native.Mathlib.Omega.{arith}

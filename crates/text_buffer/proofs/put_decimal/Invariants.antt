@@ -1,4 +1,4 @@
--- `put_decimal` meets its contract. The loop's invariant: the last digits stand behind the place of those that are left.
+-- The loop's invariant: the last digits stand behind the place of those that are left.
 use mathlib.Core.Path.{◌≡◌}
 use lib.ListN.{length}
 use Rattle.text_buffer.proofs.DecimalLaws.{Behind}

@@ -1,4 +1,4 @@
--- `put_text` meets its contract. The loop's invariant: the bytes passed are put.
+-- `put_text` meets its contract.
 use mathlib.Core.Path.{refl, sym, ap, ◌∙◌}
 use native.Mathlib.Omega.{arith}
 use lib.ListN.{length-set}

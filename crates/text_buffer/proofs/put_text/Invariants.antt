@@ -1,4 +1,4 @@
--- `put_text` meets its contract. The loop's invariant: the bytes passed are put.
+-- The loop's invariant: the bytes passed are put.
 use Prim.Native.Nat.{◌≤◌, ◌-◌}
 use mathlib.Core.Path.{◌≡◌}
 use lib.ListN.{length, take}

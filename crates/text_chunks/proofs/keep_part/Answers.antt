@@ -1,4 +1,4 @@
--- `keep_part` meets its contract. The loop's invariant: what is kept and what is left of the part tell.
+-- `keep_part` meets its contract.
 use Prim.Native.Nat.{◌<◌}
 use mathlib.Core.Path.{refl, sym, ◌∙◌}
 use native.Mathlib.Omega.{arith}
@@ -17,7 +17,7 @@ returns-then-n-eq17 c =
     let l = c.loop-i in
     let a = c.args in
     record {
-      part = keeps_done (take a.kept a.line.now) l.line a.part.now l.n l.i l.invariant.3 c.if-n-eq17.true l.invariant.4;
+      part = keeps_done (take a.kept a.line.now) l.line a.part.now l.n l.i l.invariant.3 (omega arith) l.invariant.4;
       bound = l.invariant.2;
     }
 
@@ -27,7 +27,7 @@ bounds-part-i c = omega arith
 pub bounds-line-n : goal.bounds-line-n
 bounds-line-n c =
     let l = c.loop-i in
-    omega (arith, l.invariant.2, l.invariant.3, c.if-n-eq17.false)
+    omega (arith, l.invariant.2, l.invariant.3)
 
 pub overflow_add-n : goal.overflow_add-n
 overflow_add-n c = omega (arith, c.loop-i.invariant.2)
@@ -39,10 +39,10 @@ pub loop-i-preserved : goal.loop-i-preserved
 loop-i-preserved c =
     let l = c.loop-i in
     let a = c.args in
-    let short : l.n < 17 = omega (arith, l.invariant.2, c.if-n-eq17.false) in (
+    let short : l.n < 17 = omega (arith, l.invariant.2) in (
       omega arith,
       refl,
-      omega (arith, l.invariant.2, c.if-n-eq17.false),
+      omega (arith, l.invariant.2),
       simp length-set l.invariant.3,
       keeps_next (take a.kept a.line.now) l.line a.part.now l.n l.i l.invariant.3 short (omega arith) l.invariant.4,
     )

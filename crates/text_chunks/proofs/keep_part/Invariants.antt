@@ -1,4 +1,4 @@
--- `keep_part` meets its contract. The loop's invariant: what is kept and what is left of the part tell.
+-- The loop's invariant: what is kept and what is left of the part tell.
 use Prim.Native.Nat.{◌≤◌, ◌-◌}
 use mathlib.Core.Path.{◌≡◌}
 use lib.ListN.{length, take, drop}

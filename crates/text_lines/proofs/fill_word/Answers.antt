@@ -1,4 +1,4 @@
--- `fill_word` meets its contract. The loop's invariant: the symbols of the digits passed are put.
+-- `fill_word` meets its contract.
 use mathlib.Core.Path.{refl, sym, ◌∙◌}
 use native.Mathlib.Omega.{arith}
 use lib.ListN.{length-set}

@@ -1,4 +1,4 @@
--- `fill_word` meets its contract. The loop's invariant: the symbols of the digits passed are put.
+-- The loop's invariant: the symbols of the digits passed are put.
 use Prim.Native.Nat.{◌≤◌, ◌-◌}
 use mathlib.Core.Path.{◌≡◌}
 use lib.ListN.{length, take}

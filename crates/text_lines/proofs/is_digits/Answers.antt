@@ -1,4 +1,4 @@
--- `is_digits` meets its contract. The loop's invariant: what was asked and what is left tell.
+-- `is_digits` meets its contract.
 use mathlib.Core.Path.{refl}
 use native.Mathlib.Omega.{arith}
 use Rattle.text_lines.proofs.LineLaws.{digits_next, digits_all}

@@ -1,4 +1,4 @@
--- `is_digits` meets its contract. The loop's invariant: what was asked and what is left tell.
+-- The loop's invariant: what was asked and what is left tell.
 use Prim.Native.Nat.{◌≤◌, ◌-◌}
 use mathlib.Core.Path.{◌≡◌}
 use mathlib.Core.Bool.{◌&&◌}
