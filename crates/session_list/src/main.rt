@@ -7,12 +7,16 @@ ghost use Rattle.std.specs.Prelude.{◌≡◌, true, false, ◌≤◌, length};
 ghost use Rattle.text_chunks.specs.Reading.{given};
 ghost use Rattle.text_chunks.specs.Internal.{rest_place, goes_on, IfRest};
 
+use std::fmt::InlineText;
 use std::io;
 use std::io::{Read, Write};
 use text_chunks::Next;
 
 // The error of a failed read of which the system says no more.
 const EIO: i32 = 5;
+
+// The room for an error's text: std takes at most 256 bytes of the system's words, and puts at most 23 behind them for the number.
+const ERROR_LEN: usize = 288;
 
 // Where the listing stands: what the last read gave, and its error; the place in the chunk up to which it is listed; whether it goes on.
 #[derive(Clone, Copy)]
@@ -59,7 +63,7 @@ fn end() -> Place
 
 // Says on standard error what failed and the system's words for it, without the number that std puts behind them.
 fn tell(rt: &HostRuntime, doing: &str, error: io::Error) -> io::Result<()> {
-    let text = format!(in rt.alloc(); "{error}")?;
+    let text = InlineText::<ERROR_LEN>::of(error);
     let all = text.as_str();
     let words = match all.split_once(" (os error ") {
         Some((words, _)) => words,
