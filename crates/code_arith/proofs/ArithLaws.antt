@@ -7,6 +7,8 @@ use lib.Bits.{bit_and, and_mask}
 use lib.Dec.{lit<}
 use lib.Pow.{pow_pos, shl_exact}
 use Rattle.code_theory.specs.Internal.{nth_clear}
+use Rattle.code_theory.proofs.ModularLaws.{sub_mod_code}
+use Rattle.code_theory.proofs.QuestionLaws.{mask_mod}
 
 -- the bits below k, as the code's mask picks them
 one_up : (k : ℕ) → k < 8 → (1 * 2 ^ k) % 18446744073709551616 ≡ 2 ^ k
@@ -22,3 +24,6 @@ low_bits k j h = ap (λ n. bit_and j (n - 1)) (one_up k h) ∙ and_mask j k
 pub nth_code : (k j low : ℕ) → low ≡ j % 2 ^ k → (low ≤ j) × (j + (j - low) ≡ nth_clear k j)
 unfolding nth_clear
 nth_code k j low e = omega (arith, e, mod-add-div j (2 ^ k), mul_comm (2 ^ k) (j / 2 ^ k))
+
+-- a mask with q - 1 is the remainder, and the code of a difference meets its definition
+pub ruleset masks = (mask_mod, sub_mod_code)

@@ -1,7 +1,7 @@
 // Arithmetic that every layer may use.
 #![tactic(auto)]
 
-ghost use Rattle.std.specs.Prelude.{◌≡◌, true, ◌+◌, ◌%◌, ◌^◌, ◌<◌, ◌≤◌, min, max};
+ghost use Rattle.std.specs.Prelude.{◌≡◌, true, ◌+◌, ◌%◌, ◌^◌, ◌<◌, ◌≤◌};
 ghost use Rattle.code_theory.specs.Internal.{nth_clear};
 ghost use Rattle.code_theory.specs.Modular.{sub_mod};
 ghost use Rattle.code_theory.specs.Question.{is_alphabet};
@@ -24,21 +24,8 @@ pub fn nth_clear(k: u32, j: usize) -> usize
     j + (j - low)
 }
 
-// The lower of the two.
-pub fn lower(a: u32, b: u32) -> u32
-    ensures { result ≡ min a b }
-{
-    if b < a { b } else { a }
-}
-
-// The larger of the two.
-pub fn larger(a: u32, b: u32) -> u32
-    ensures { result ≡ max a b }
-{
-    if a < b { b } else { a }
-}
-
-// a plus b modulo q, by a mask.
+// a plus b modulo q, by a mask. Here and below q is at most 8, so that `as` narrows it; try_from would have to be unwrapped.
+#[tactic(auto, unfolding(code_theory::specs::Question::is_alphabet), using(crate::proofs::ArithLaws::masks))]
 pub fn add_mod(q: u32, a: u8, b: u8) -> u8
     requires { (is_alphabet q ≡ true) × (a < q) × (b < q) }
     ensures { result ≡ (a + b) % q }
@@ -47,6 +34,7 @@ pub fn add_mod(q: u32, a: u8, b: u8) -> u8
 }
 
 // a minus b modulo q, by a mask.
+#[tactic(auto, unfolding(code_theory::specs::Question::is_alphabet), using(crate::proofs::ArithLaws::masks))]
 pub fn sub_mod(q: u32, a: u8, b: u8) -> u8
     requires { (is_alphabet q ≡ true) × (a < q) × (b < q) }
     ensures { result ≡ sub_mod q a b }

@@ -1,2 +1,3 @@
 pub mod Top
 pub mod Whole
+pub mod RefusalLaws

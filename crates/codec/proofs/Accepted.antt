@@ -1,17 +1,17 @@
 -- What it says that the questions are answered yes. Assumes nothing.
 use Prim.Native.Nat.{ℕ, suc, ◌^◌, ◌≤◌, ◌<◌}
-use mathlib.Core.Path.{◌≡◌, refl, ap, sym, ◌∙◌}
+use mathlib.Core.Path.{◌≡◌, refl, sym, ◌∙◌}
 use mathlib.Core.Logic.{◌≢◌}
 use mathlib.Core.Bool.{true}
-use mathlib.Core.List.{List, []}
+use mathlib.Core.List.{List}
 use native.Mathlib.Decide.{ℕ_discrete}
 use native.Mathlib.Omega.{arith}
 use lib.ListN.{length}
 use Rattle.code_theory.specs.Nearest.{is_readable}
-use Rattle.code_theory.specs.Question.{ask, is_alphabet, is_variables, is_message_size, is_word_size, all_below, accepted, refused}
-use Rattle.code_theory.proofs.QuestionLaws.{ask_yes, ask_never, ask_later, alphabet, alphabet_bounds, variables_bounds, message_size, word_size, symbols, answer_yes, answer_no}
+use Rattle.code_theory.specs.Question.{ask, is_alphabet, is_variables, is_message_size, is_word_size, all_below}
+use Rattle.code_theory.proofs.QuestionLaws.{ask_yes, ask_never, ask_later, alphabet, alphabet_bounds, variables_bounds, message_size, word_size, symbols}
 use Rattle.code_theory.specs.Internal.{WellFormed}
-use Rattle.codec.specs.Codec.{encode_refusal, encode_answer, decode_refusal}
+use Rattle.codec.specs.Codec.{decode_refusal}
 use Rattle.codec.specs.Internal.{size_refusal, word_refusal}
 
 -- q, m and the message slice pass the questions that Read asks first
@@ -58,16 +58,6 @@ decode_word q m s w e = go (ℕ_discrete (word_refusal q m s w) 0)
     go : Dec (word_refusal q m s w ≡ 0) → word_refusal q m s w ≡ 0
     go (yes z) = z
     go (no d) = sym (decode_never q m s w d) ∙ e
-
--- what Write answers, by the number of its first question answered no
-module _ (q m : ℕ) (s w : List ℕ) (n : ℕ) (e : n ≡ encode_refusal q m s w) where
-  pub encode_refused : n ≢ 0 → refused n ≡ encode_answer q m s w
-  unfolding encode_answer
-  encode_refused d = ap refused e ∙ sym (answer_no _ _ (λ z. d (e ∙ z)))
-
-  pub encode_accepted : n ≡ 0 → accepted [] ≡ encode_answer q m s w
-  unfolding encode_answer
-  encode_accepted z = sym (answer_yes _ _ (sym e ∙ z))
 
 -- a word that Read goes on to read, with its message slice
 pub record Readable (q m : ℕ) (s w : List ℕ) : Type 0 where

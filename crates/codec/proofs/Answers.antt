@@ -12,38 +12,37 @@ use Rattle.code_theory.specs.Nearest.{near_message, near_distance, near_margin}
 use Rattle.code_theory.proofs.CodeLaws.{distance_le}
 use Rattle.code_theory.proofs.MarginLaws.{least_le}
 use Rattle.code_theory.proofs.ErrorLaws.{votes_le_half}
-use Rattle.code_theory.proofs.QuestionLaws.{answer_accepted, answer_refused}
-use Rattle.codec.specs.Codec.{encode_refusal, encode_answer, encoded, decode_refusal, decode_answer, decoded}
+use Rattle.std.specs.Prelude.{Result, Ok, Err, ⊤}
+use Rattle.code_questions.specs.declared.Refusal.{Refusal}
+use Rattle.code_questions.specs.Refusal.{number, answered, no_values}
+use Rattle.code_questions.proofs.RefusalLaws.{answered_ok, answered_err}
+use Rattle.codec.specs.Codec.{encode_refusal, encode_answer, decode_refusal, decode_answer, reading_values}
 use Rattle.decode_reading.specs.declared.Reading.{Reading}
-use Rattle.codec.specs.declared.Encoded.{Encoded}
-use Rattle.codec.specs.declared.Encoded.TheVariants as E
-use Rattle.codec.specs.declared.Decoded.{Decoded}
-use Rattle.codec.specs.declared.Decoded.TheVariants as D
 use Rattle.codec.proofs.Accepted.{readable, decode_word}
 
 module _ (q m : ℕ) (message word : List ℕ) where
-  module _ (r : Encoded) (e : encoded r ≡ encode_answer q m message word) where
-    pub encode_written : r ≡ E.Written → encode_refusal q m message word ≡ 0
-    unfolding encoded encode_answer
-    encode_written f = (answer_accepted _ _ _ (sym (ap encoded f) ∙ e)).0
+  module _ (r : Result ⊤ Refusal) (e : answered no_values r ≡ encode_answer q m message word) where
+    pub encode_written : (a : ⊤) → r ≡ Ok a → encode_refusal q m message word ≡ 0
+    unfolding encode_answer
+    encode_written a f = (answered_ok _ _ _ a (sym (ap (answered no_values) f) ∙ e)).0
 
-    pub encode_number_lem : (n : ℕ) → r ≡ E.Refused n → (n ≡ encode_refusal q m message word) × (encode_refusal q m message word ≢ 0)
-    unfolding encoded encode_answer
-    encode_number_lem n f = answer_refused _ _ _ (sym (ap encoded f) ∙ e)
+    pub encode_number_lem : (x : Refusal) → r ≡ Err x → (number x ≡ encode_refusal q m message word) × (encode_refusal q m message word ≢ 0)
+    unfolding encode_answer
+    encode_number_lem x f = answered_err _ _ _ x (sym (ap (answered no_values) f) ∙ e)
 
-  module _ (r : Decoded) (e : decoded r ≡ decode_answer q m message word) where
-    pub decode_read : (s : Reading) → r ≡ D.Read s → (decode_refusal q m message word ≡ 0) × (s.wrong ≡ near_distance q m word) × (s.margin ≡ near_margin q m word)
-    unfolding decoded decode_answer
+  module _ (r : Result Reading Refusal) (e : answered reading_values r ≡ decode_answer q m message word) where
+    pub decode_read : (s : Reading) → r ≡ Ok s → (decode_refusal q m message word ≡ 0) × (s.wrong ≡ near_distance q m word) × (s.margin ≡ near_margin q m word)
+    unfolding reading_values decode_answer
     decode_read s f =
-        let (z, x) = answer_accepted _ _ _ (sym (ap decoded f) ∙ e) in
+        let (z, x) = answered_ok _ _ _ s (sym (ap (answered reading_values) f) ∙ e) in
         (z, cc, cc)
 
-    pub decode_number_lem : (n : ℕ) → r ≡ D.Refused n → (n ≡ decode_refusal q m message word) × (decode_refusal q m message word ≢ 0)
-    unfolding decoded decode_answer
-    decode_number_lem n f = answer_refused _ _ _ (sym (ap decoded f) ∙ e)
+    pub decode_number_lem : (x : Refusal) → r ≡ Err x → (number x ≡ decode_refusal q m message word) × (decode_refusal q m message word ≢ 0)
+    unfolding decode_answer
+    decode_number_lem x f = answered_err _ _ _ x (sym (ap (answered reading_values) f) ∙ e)
 
     -- the count and the margin of an accepted word are small
-    pub decode_small : (s : Reading) → r ≡ D.Read s → (s.wrong ≤ 256) × (s.margin ≤ 256)
+    pub decode_small : (s : Reading) → r ≡ Ok s → (s.wrong ≤ 256) × (s.margin ≤ 256)
     unfolding near_distance near_margin margin lead tally
     decode_small s f =
         let (z, x, y) = decode_read s f in

@@ -1,11 +1,9 @@
 // Groups of words for a program that holds them against another implementation; nothing else uses this crate.
-#![tactic(auto)]
+#![tactic(auto, unfolding(code_questions::specs::Refusal::answered, code_questions::specs::Refusal::no_values, code_theory::specs::Internal::answer_number))]
 
 ghost use Rattle.std.specs.Prelude.{◌≡◌};
 ghost use Rattle.code_theory.specs.Internal.{answer_number};
 ghost use Rattle.interleave.specs.Interleave.{group_answer, rearrange_target, put_back_target};
-
-use interleave::Moved;
 
 // Rearranges the source into the target: the refusal number, or 100.
 #[unsafe(no_mangle)]
@@ -20,8 +18,8 @@ pub extern "C" fn compare_interleave(
     ensures buffer { target.new ≡ rearrange_target q m count source.now target.old }
 {
     match interleave::interleave(q, m, count, source, target) {
-        Moved::Done => 100,
-        Moved::Refused(number) => number,
+        Ok(()) => 100,
+        Err(refusal) => refusal.into(),
     }
 }
 
@@ -38,7 +36,7 @@ pub extern "C" fn compare_deinterleave(
     ensures buffer { target.new ≡ put_back_target q m count source.now target.old }
 {
     match interleave::deinterleave(q, m, count, source, target) {
-        Moved::Done => 100,
-        Moved::Refused(number) => number,
+        Ok(()) => 100,
+        Err(refusal) => refusal.into(),
     }
 }

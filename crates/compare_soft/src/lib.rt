@@ -8,9 +8,9 @@ ghost use Rattle.soft.specs.Pair.{pair};
 ghost use Rattle.code_theory.specs.Internal.{answer_number};
 ghost use Rattle.compare_soft.specs.Internal.{vote_number, with_sums, sums_after};
 
-use soft::{SoftRead, SoftVote, Sums};
+use soft::{SoftVote, Sums};
 
-// Puts the sums into a slice of two.
+// Puts the sums into a slice of two, one by one: with copy_from_slice a vote takes eight to ten instructions more.
 fn store(s: Sums, sums: &mut [f32])
     ensures { sums.new ≡ with_sums (pair s) sums.old }
 {
@@ -29,13 +29,13 @@ pub extern "C" fn compare_soft_vote(m: u32, k: u32, re: &[f32], im: &[f32], sums
     match soft::soft_vote(m, k, re, im) {
         SoftVote::Sure(symbol, s) => {
             store(s, sums);
-            100 + symbol as u32
+            100 + u32::from(symbol)
         }
         SoftVote::Unsure(s) => {
             store(s, sums);
             104
         }
-        SoftVote::Refused(number) => number,
+        SoftVote::Refused(refusal) => u32::from(refusal),
     }
 }
 
@@ -46,7 +46,7 @@ pub extern "C" fn compare_soft_read(m: u32, message: &mut [u8], re: &[f32], im: 
     ensures buffer { message.new ≡ read_message f32 m message.old re.now im.now }
 {
     match soft::soft_read(m, message, re, im) {
-        SoftRead::Read => 100,
-        SoftRead::Refused(number) => number,
+        Ok(()) => 100,
+        Err(refusal) => u32::from(refusal),
     }
 }

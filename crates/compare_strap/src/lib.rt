@@ -6,15 +6,6 @@ ghost use Rattle.strap.specs.Strap.{pack_answer, pack_message, unpack_answer};
 ghost use Rattle.code_theory.specs.Internal.{answer_number};
 ghost use Rattle.compare_strap.specs.Internal.{unpack_number};
 
-use strap::{Packed, Unpacked};
-
-// A byte in the width of the number.
-fn wide(x: u8) -> u32
-    ensures { result ≡ x }
-{
-    x as u32
-}
-
 // Fills the message with the rate and the zone: the refusal number, or 100.
 #[unsafe(no_mangle)]
 pub extern "C" fn compare_pack(message: &mut [u8], rate: u8, zone: u8) -> u32
@@ -22,8 +13,8 @@ pub extern "C" fn compare_pack(message: &mut [u8], rate: u8, zone: u8) -> u32
     ensures buffer { message.new ≡ pack_message message.old rate zone }
 {
     match strap::pack(message, rate, zone) {
-        Packed::Filled => 100,
-        Packed::Refused(number) => number,
+        Ok(()) => 100,
+        Err(refusal) => refusal.into(),
     }
 }
 
@@ -33,7 +24,7 @@ pub extern "C" fn compare_unpack(message: &[u8]) -> u32
     ensures { result ≡ unpack_number (unpack_answer message.now) }
 {
     match strap::unpack(message) {
-        Unpacked::Report(report) => 1000000 + 1000 * wide(report.rate) + wide(report.zone),
-        Unpacked::Refused(number) => number,
+        Ok(report) => 1_000_000 + 1_000 * u32::from(report.rate) + u32::from(report.zone),
+        Err(refusal) => refusal.into(),
     }
 }

@@ -12,7 +12,7 @@ ghost use Rattle.decode_reading.specs.Internal.{Settled};
 ghost use Rattle.decode_long.specs.Internal.{FirstWinnersOf, Empty, LongCode, LongConstant, Winning};
 
 use decode_long_winner::Winner;
-use decode_reading::{Outcome, Reading};
+use decode_reading::Reading;
 
 // Puts the winners of the coefficients into the message and returns their least lead.
 fn coefficients(q: u32, m: u32, t: &[u64; 8], message: &mut [u8; 9]) -> u32
@@ -20,10 +20,10 @@ fn coefficients(q: u32, m: u32, t: &[u64; 8], message: &mut [u8; 9]) -> u32
     ensures { FirstWinnersOf q m t.now message.new m result }
 {
     let mut least: u32 = 256;
-    for k in 0..m {
-        let r = decode_long_winner::winner_of(q, t[k as usize], 0);
-        message[k as usize + 1] = r.symbol as u8;
-        least = code_arith::lower(least, r.votes - r.next);
+    for (k, tally) in t[..m as usize].iter().enumerate() {
+        let r = decode_long_winner::winner_of(q, *tally, 0);
+        message[k + 1] = r.symbol as u8;
+        least = least.min(r.votes - r.next);
     }
     least
 }
@@ -36,7 +36,7 @@ fn set_constant(n: u32, least: u32, r: Winner, message: &mut [u8; 9]) -> Reading
     message[0] = r.symbol as u8;
     Reading {
         wrong: n - r.votes,
-        margin: code_arith::lower(least, r.votes - r.next),
+        margin: least.min(r.votes - r.next),
     }
 }
 
@@ -70,8 +70,10 @@ fn long_constant(
 {
     swar_lanes::load(&code[0..code_arith::pow2(m)], y);
     let half = code_arith::pow2(m - 5);
-    let t = decode_long_tally::difference_tally(q as u64, 0, half, table, x, y);
-    let u = decode_long_tally::difference_tally(q as u64, half, half, table, x, y);
+    let (x1, x2) = x[..2 * half].split_at(half);
+    let (y1, y2) = y[..2 * half].split_at(half);
+    let t = decode_long_tally::difference_tally(q as u64, table, x1, y1);
+    let u = decode_long_tally::difference_tally(q as u64, table, x2, y2);
     decode_long_winner::winner_of(q, t, u)
 }
 
@@ -113,16 +115,16 @@ fn winners(q: u32, m: u32, word: &[u8], message: &mut [u8; 9]) -> Reading
 }
 
 // Reads a word of 32 places or more: fills the message with the winners, where they are near.
-pub fn read(q: u32, m: u32, message: &mut [u8], word: &[u8]) -> Outcome
+pub fn read(q: u32, m: u32, message: &mut [u8], word: &[u8]) -> Option<Reading>
     requires { WellFormed q m word.now × (5 ≤ m) × (length message.old ≡ m + 1) }
     ensures { Settled q m word.now message.old message.new result }
 {
     let mut found = [0u8; 9];
     let reading = winners(q, m, word, &mut found);
     if 4 * reading.wrong >= word.len() as u32 {
-        return Outcome::Doubtful;
+        return None;
     }
     let n = message.len();
     message.copy_from_slice(&found[..n]);
-    Outcome::Read(reading)
+    Some(reading)
 }

@@ -1,11 +1,13 @@
 -- Sums of units over lanes, and the tallies that they are. Assumes nothing.
-use Prim.Native.Nat.{ℕ, suc, ◌+◌, ◌*◌, ◌-◌, ◌/◌, ◌%◌, ◌^◌, ◌≤◌, ◌<◌}
+use Prim.Native.Nat.{ℕ, zero, suc, ◌+◌, ◌*◌, ◌-◌, ◌/◌, ◌%◌, ◌^◌, ◌≤◌, ◌<◌}
 use mathlib.Core.Path.{◌≡◌, refl, ap, ap₂, sym, ◌∙◌}
 use mathlib.Core.List.{List}
 use native.Mathlib.Omega.{arith}
 use native.Mathlib.Nat.{div-one, pow-le-pow_right, le_of_suc-le-suc, add_assoc}
 use lib.Bits.{bit_and, and_mask, and_mod, and_le_l, and_le_r}
-use lib.Pow.{shr-shr, pow_mono}
+use lib.ListN.{length}
+use lib.Pow.{pow_mono}
+use Rattle.std.specs.Int.{w64, to_le_bytes}
 use Rattle.code_theory.specs.Sum.{sum, at}
 use Rattle.code_theory.specs.Index.{if_clear}
 use Rattle.code_theory.specs.Internal.{nth_clear}
@@ -22,26 +24,28 @@ use Rattle.swar_theory.proofs.DigitLaws.{digit_even, digit_odd, digit_down}
 use Rattle.decode_long_tally.proofs.CounterLaws.{units_digit}
 use Rattle.swar_lanes.specs.Internal.{offset, Lanes, LanesBelow, Packed, spot, Reach, BallotOf}
 use Rattle.swar_lanes.proofs.SpotLaws.{block_sum, offset_sum, spot_sum}
-use Rattle.decode_long_tally.specs.Internal.{difference, Pairs, Listed, LongLanes, VotesOf, DifferencesOf}
+use Rattle.decode_long_tally.specs.Internal.{difference, Pairs, Listed, LongLanes, VotesOf, PackedFrom, DifferencesOf}
 
--- the entry that code reads: two lanes are the byte's low and high half
-byte : (d : ℕ) → bit_and d 255 ≡ digit 4 d 0 + 16 * digit 4 d 1
+-- byte i of a number, as `to_le_bytes` gives it
+pub byte_digit : (d i : ℕ) → i < 8 → at (to_le_bytes w64 d) i ≡ digit 8 d i
 unfolding digit
-byte d =
-    let e : digit 8 d 0 ≡ d % 256 = ap (λ z. z % 256) (div-one d) in
-    let l : digit 4 d 0 ≡ d % 256 % 16 = digit_even 4 d 0 ∙ ap (λ z. z % 16) e in
-    let h : digit 4 d 1 ≡ d % 256 / 16 = digit_odd 4 d 0 ∙ ap (λ z. z / 16) e in
-    and_mask d 8 ∙ omega (arith, l, h)
+byte_digit d zero l = ap (λ z. z % 256) (sym (div-one d))
+byte_digit d (suc zero) l = refl
+byte_digit d (suc (suc zero)) l = refl
+byte_digit d (suc (suc (suc zero))) l = refl
+byte_digit d (suc (suc (suc (suc zero)))) l = refl
+byte_digit d (suc (suc (suc (suc (suc zero))))) l = refl
+byte_digit d (suc (suc (suc (suc (suc (suc zero)))))) l = refl
+byte_digit d (suc (suc (suc (suc (suc (suc (suc zero))))))) l = refl
+byte_digit d (suc (suc (suc (suc (suc (suc (suc (suc i)))))))) l = absurd (omega arith)
 
-pub byte_fits : (d n : ℕ) → n < 256 → bit_and d n * 8 < 18446744073709551616
-byte_fits d n s = omega (arith, and_le_r d n)
+-- two lanes are a byte's low and high half
+byte_lanes : (d i : ℕ) → i < 8 → at (to_le_bytes w64 d) i ≡ digit 4 d (2 * i) + 16 * digit 4 d (2 * i + 1)
+byte_lanes d i l = omega (arith, byte_digit d i l, digit_even 4 d i, digit_odd 4 d i)
 
--- the index is one of the table's, whichever part of the byte is read
-pub byte_lt : (d n : ℕ) → digit 4 d 0 < 8 → digit 4 d 1 < 8 → n < 256 → bit_and d n < 128
-byte_lt d n l h s = omega (arith, byte d, and_mask d 8, and_mod d n 8, and_le_l (d % 256) (n % 256), and_le_r d n)
-
-pub byte_entry : (u : List ℕ) (d : ℕ) → at u (bit_and d 255) ≡ at u (digit 4 d 0 + 16 * digit 4 d 1)
-byte_entry u d = ap (at u) (byte d)
+-- and so the byte is an index of the table
+pub byte_lt : (d : ℕ) (s : List ℕ) (i : ℕ) → s ≡ to_le_bytes w64 d → i < 8 → LanesBelow 8 d → at s i < 128
+byte_lt d s i e l b = omega (arith, ap (λ z. at z i) e, byte_lanes d i l, b (2 * i) (omega arith), b (2 * i + 1) (omega arith))
 
 -- the rows below q are enough for lanes below q
 pub listed : (q : ℕ) (u : List ℕ) (d : ℕ) → is_alphabet q ≡ true → Pairs q u → LanesBelow q d → Listed u d
@@ -54,20 +58,6 @@ listed q u d a p b = record { values = eight; each = λ s t l h. p.each _ _ (eig
 pub unit_le : (v : ℕ) → v < 8 → 256 ^ v ≤ 72057594037927936
 unit_le v l = pow-le-pow_right (omega arith) {i = v} {j = 7} (le_of_suc-le-suc l)
 
-lane_at : (d e i l : ℕ) → e ≡ d / 2 ^ (4 * (2 * i)) → digit 4 e l ≡ digit 4 d (2 * i + l)
-lane_at d e i l f = ap (λ z. digit 4 z l) f ∙ digit_down 4 d (2 * i) l
-
-pub lane_below : (d e i l : ℕ) → e ≡ d / 2 ^ (4 * (2 * i)) → LanesBelow 8 d → i < 8 → l < 2 → digit 4 e l < 8
-lane_below d e i l f b h k = omega (arith, lane_at d e i l f, b (2 * i + l) (omega arith))
-
-pub byte_start : (d : ℕ) → d ≡ d / 2 ^ (4 * (2 * 0))
-byte_start d = sym (div-one d)
-
-pub byte_next : (d e i : ℕ) → e ≡ d / 2 ^ (4 * (2 * i)) → e / 2 ^ 8 ≡ d / 2 ^ (4 * (2 * (i + 1)))
-byte_next d e i f =
-    let g : 4 * (2 * i) + 8 ≡ 4 * (2 * (i + 1)) = omega arith in
-    ap (λ z. z / 2 ^ 8) f ∙ shr-shr d (4 * (2 * i)) 8 ∙ ap (λ z. d / 2 ^ z) g
-
 -- the units of the first n lanes
 unfoldable pub lane_units : ℕ → ℕ → ℕ
 lane_units d n = sum n (λ t. 256 ^ digit 4 d t)
@@ -76,21 +66,20 @@ pub units_none : (d : ℕ) → 0 ≡ lane_units d (2 * 0)
 unfolding lane_units sum
 units_none d = refl
 
-pub units_next : (u : List ℕ) (d e i t r : ℕ) → Listed u d → i < 8 → e ≡ d / 2 ^ (4 * (2 * i)) → t ≡ lane_units d (2 * i)
-    → r ≡ at u (digit 4 e 0 + 16 * digit 4 e 1) → t + r ≡ lane_units d (2 * (i + 1))
+pub units_next : (u : List ℕ) (d : ℕ) (s : List ℕ) (i t : ℕ) → Listed u d → s ≡ to_le_bytes w64 d → i < 8 → t ≡ lane_units d (2 * i)
+    → t + at u (at s i) ≡ lane_units d (2 * (i + 1))
 unfolding lane_units
-units_next u d e i t r p l f g h =
+units_next u d s i t p e l g =
     let n : 2 * (i + 1) ≡ 2 * i + 1 + 1 = omega arith in
-    let z : 2 * i + 0 ≡ 2 * i = omega arith in
-    ap₂ (λ x y. x + y) g (h ∙ ap₂ (λ x y. at u (x + 16 * y)) (lane_at d e i 0 f ∙ ap (digit 4 d) z) (lane_at d e i 1 f) ∙ p.each (2 * i) (2 * i + 1) (omega arith) (omega arith))
+    ap₂ (λ x y. x + y) g (ap (at u) (ap (λ z. at z i) e ∙ byte_lanes d i l) ∙ p.each (2 * i) (2 * i + 1) (omega arith) (omega arith))
     ∙ sym (ap (λ x. sum x (λ t. 256 ^ digit 4 d t)) n ∙ sum_next (2 * i + 1) _ ∙ ap (λ x. x + 256 ^ digit 4 d (2 * i + 1)) (sum_next (2 * i) _) ∙ add_assoc _ _ _)
 
 lane_units_le : (d n : ℕ) → LanesBelow 8 d → n ≤ 16 → lane_units d n ≤ n * 72057594037927936
 unfolding lane_units
 lane_units_le d n b l = sum_bound n 72057594037927936 _ (λ i h. unit_le _ (b i (omega arith)))
 
-pub units_fit : (d i t u : ℕ) → t + u ≡ lane_units d (2 * (i + 1)) → i < 8 → LanesBelow 8 d → t + u < 18446744073709551616
-units_fit d i t u e l b = omega (arith, e, lane_units_le d (2 * (i + 1)) b (omega arith))
+pub units_fit : (u : List ℕ) (d : ℕ) (s : List ℕ) (i t : ℕ) → Listed u d → s ≡ to_le_bytes w64 d → i < 8 → t ≡ lane_units d (2 * i) → t + at u (at s i) < 18446744073709551616
+units_fit u d s i t p e l g = omega (arith, units_next u d s i t p e l g, lane_units_le d (2 * (i + 1)) p.values (omega arith))
 
 pub units_all : (d i t : ℕ) → i ≡ 8 → t ≡ lane_units d (2 * i) → LanesBelow 8 d → (t ≡ sum 16 (λ t. 256 ^ digit 4 d t)) × (t ≤ 16 * 72057594037927936)
 unfolding lane_units
@@ -170,35 +159,34 @@ module _ (q m k : ℕ) (x : List ℕ) (v : LongLanes q m x) (h : k < m) where
 unfoldable pub difference_units : ℕ → ℕ → List ℕ → List ℕ → ℕ → ℕ
 difference_units q f w c n = sum n (λ j. sum 16 (λ t. 256 ^ difference q w c (16 * (f + j) + offset t)))
 
--- the units of the first n numbers from number f on
-abbrev pub Differing : ℕ → ℕ → List ℕ → List ℕ → ℕ → ℕ → Type 0
-Differing q f x y n t =
-    (t ≤ n * 1152921504606846976) × ((w c : List ℕ) (s : ℕ) → Packed s w x → Packed s c y → f + n ≤ s → t ≡ difference_units q f w c n)
+-- the units of the first n numbers
+abbrev pub Differing : ℕ → List ℕ → List ℕ → ℕ → ℕ → Type 0
+Differing q x y n t =
+    (t ≤ n * 1152921504606846976) × ((w c : List ℕ) (f : ℕ) → PackedFrom f w x → PackedFrom f c y → t ≡ difference_units q f w c n)
 
-pub differences_none : (q f : ℕ) (x y : List ℕ) → Differing q f x y 0 0
+pub differences_none : (q : ℕ) (x y : List ℕ) → Differing q x y 0 0
 unfolding difference_units sum
-differences_none q f x y = (omega arith, λ w c s p r l. refl)
+differences_none q x y = (omega arith, λ w c f p r. refl)
 
-pub differences_next : (q f : ℕ) (x y : List ℕ) (n t d u : ℕ) → Differing q f x y n t
-    → Lanes d (λ t. sub_mod q (digit 4 (at x (f + n)) t) (digit 4 (at y (f + n)) t)) → u ≡ sum 16 (λ t. 256 ^ digit 4 d t) → u ≤ 16 * 72057594037927936
-    → Differing q f x y (n + 1) (t + u)
+pub differences_next : (q : ℕ) (x y : List ℕ) (n t a b d u : ℕ) → n < length x → n < length y → Differing q x y n t → a ≡ at x n → b ≡ at y n
+    → Lanes d (λ t. sub_mod q (digit 4 a t) (digit 4 b t)) → u ≡ sum 16 (λ t. 256 ^ digit 4 d t) → u ≤ 16 * 72057594037927936
+    → Differing q x y (n + 1) (t + u)
 unfolding difference_units difference
-differences_next q f x y n t d u (b, e) s g h = (
+differences_next q x y n t a b d u l k (few, e) ea eb s g h = (
   omega arith,
-  λ w c z p r k.
-      ap₂ (λ a b. a + b) (e w c z p r (omega arith)) (g ∙ sum_ext 16 _ _ (λ i j.
-      ap (λ a. 256 ^ a) (s i j ∙ ap₂ (sub_mod q) (p (f + n) (omega arith) i j) (r (f + n) (omega arith) i j))))
+  λ w c f p r.
+      ap₂ (λ a b. a + b) (e w c f p r) (g ∙ sum_ext 16 _ _ (λ i j. ap (λ a. 256 ^ a) (s i j ∙ ap₂ (sub_mod q) (ap (λ z. digit 4 z i) ea ∙ p n l i j) (ap (λ z. digit 4 z i) eb ∙ r n k i j))))
       ∙ sym (sum_next n (λ j. sum 16 (λ t. 256 ^ difference q w c (16 * (f + j) + offset t)))),
 )
 
-pub differences_all : (q f : ℕ) (x y : List ℕ) (n i t : ℕ) → i ≡ n → is_alphabet q ≡ true → n ≤ 8 → Differing q f x y i t → DifferencesOf q f x y n t
+pub differences_all : (q : ℕ) (x y : List ℕ) (i t : ℕ) → i ≡ length x → is_alphabet q ≡ true → length x ≤ 8 → Differing q x y i t → DifferencesOf q x y t
 unfolding difference_units difference count if_clear
-differences_all q f x y n i t h a few (b, e) w c s p r k v l =
-    tallied_lanes q n (λ j t. difference q w c (16 * (f + j) + offset t)) t few
-    (λ j t. sub_mod_lt q _ _ (omega (arith, alphabet_bounds q (alphabet q a)))) (e w c s p r (omega arith) ∙ ap (difference_units q f w c) h) v l
-    ∙ sum_ext n _ _ (λ j _. offset_sum (λ i. same (difference q w c (16 * (f + j) + i)) v)
+differences_all q x y i t h a few (b, e) w c f p r v l =
+    tallied_lanes q (length x) (λ j t. difference q w c (16 * (f + j) + offset t)) t few
+    (λ j t. sub_mod_lt q _ _ (omega (arith, alphabet_bounds q (alphabet q a)))) (e w c f p r ∙ ap (difference_units q f w c) h) v l
+    ∙ sum_ext (length x) _ _ (λ j _. offset_sum (λ i. same (difference q w c (16 * (f + j) + i)) v)
     ∙ sum_ext 16 _ _ (λ i _. ap (λ z. same (difference q w c z) v) (places j i)))
-    ∙ sym (block_sum 16 n (λ i. same (difference q w c (f * 16 + i)) v))
+    ∙ sym (block_sum 16 (length x) (λ i. same (difference q w c (f * 16 + i)) v))
   where
     places : (j i : ℕ) → 16 * (f + j) + i ≡ f * 16 + (j * 16 + i)
     places j i = omega arith

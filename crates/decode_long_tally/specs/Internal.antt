@@ -5,7 +5,7 @@ use Rattle.code_theory.specs.Modular.{sub_mod}
 use Rattle.code_theory.specs.Vote.{votes, count}
 use Rattle.code_theory.specs.Question.{is_alphabet}
 use Rattle.swar_theory.specs.Internal.{digit}
-use Rattle.swar_lanes.specs.Internal.{LanesBelow, Within, Packed}
+use Rattle.swar_lanes.specs.Internal.{LanesBelow, Within, Held, Packed}
 
 -- ---- the counters
 -- the counters of t are f 0 to f (q - 1)
@@ -59,7 +59,16 @@ TalliesOf q m x t n = (w : List ℕ) → Packed (2 ^ (m - 4)) w x → Tallied q 
 unfoldable pub difference : ℕ → List ℕ → List ℕ → ℕ → ℕ
 difference q w c i = sub_mod q (at w i) (at c i)
 
--- the tally r counts the differences between the 16 n symbols of a word from number f on and those of another
-abbrev pub DifferencesOf : ℕ → ℕ → List ℕ → List ℕ → ℕ → ℕ → Type 0
-DifferencesOf q f x y n r =
-    (w c : List ℕ) (s : ℕ) → Packed s w x → Packed s c y → f + n ≤ s → Counts q r (count (n * 16) (λ i. 0) (λ i. difference q w c (f * 16 + i)))
+-- every lane of the numbers of x is below q
+abbrev pub EachBelow : ℕ → List ℕ → Type 0
+EachBelow q x = (j : ℕ) → j < length x → LanesBelow q (at x j)
+
+-- the numbers of x hold the symbols of w from number f on
+abbrev pub PackedFrom : ℕ → List ℕ → List ℕ → Type 0
+PackedFrom f w x = (j : ℕ) → j < length x → Held w (16 * (f + j)) (at x j)
+
+-- the tally r counts the differences between the symbols of a word that the numbers of x hold, from whichever number f on, and those of
+-- another that the numbers of y hold
+abbrev pub DifferencesOf : ℕ → List ℕ → List ℕ → ℕ → Type 0
+DifferencesOf q x y r =
+    (w c : List ℕ) (f : ℕ) → PackedFrom f w x → PackedFrom f c y → Counts q r (count (length x * 16) (λ i. 0) (λ i. difference q w c (f * 16 + i)))

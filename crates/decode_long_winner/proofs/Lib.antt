@@ -1,2 +1,1 @@
-pub mod CounterLaws
 pub mod WinnerLaws

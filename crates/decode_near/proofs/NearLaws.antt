@@ -1,8 +1,7 @@
 -- The answer of Confirm by the first question answered no, or by the places that differ from the word of the message. Assumes nothing.
 use Prim.Native.Nat.{ℕ, suc, ◌-◌, ◌*◌, ◌^◌, ◌≤◌, ◌<◌}
-use mathlib.Core.Path.{◌≡◌, ap, sym, ◌∙◌}
-use mathlib.Core.Logic.{◌≢◌}
-use mathlib.Core.Bool.{Bool, true, cond}
+use mathlib.Core.Path.{◌≡◌, refl, ap, sym, ◌∙◌}
+use mathlib.Core.Bool.{Bool, true, false, cond}
 use mathlib.Core.List.{List, [], ◌∷◌}
 use native.Mathlib.Omega.{arith}
 use native.Mathlib.Nat.{pow-succ'}
@@ -15,26 +14,29 @@ use Rattle.code_theory.specs.Sum.{at}
 use Rattle.code_theory.specs.Modular.{differ}
 use Rattle.code_theory.specs.Near.{distance}
 use Rattle.code_theory.specs.Nearest.{is_near}
-use Rattle.code_theory.specs.Question.{Answer, accepted, refused, is_alphabet}
+use Rattle.code_theory.specs.Question.{accepted, refused, answer, is_alphabet}
 use Rattle.code_theory.proofs.SumLaws.{sum_ext}
-use Rattle.code_theory.proofs.QuestionLaws.{answer_yes, answer_no}
+use Rattle.code_theory.proofs.QuestionLaws.{answer_yes}
+use Rattle.code_questions.specs.declared.Refusal.{Refusal}
+use Rattle.code_questions.specs.declared.Refusal.TheVariants.{Variables}
+use Rattle.code_questions.specs.Refusal.{number}
+use Rattle.code_questions.proofs.RefusalLaws.{refused_answer}
 use Rattle.encode_codeword.specs.Internal.{Fits, Coded, Written}
 use Rattle.encode_by_length.proofs.EncodeLaws.{variables_no, all_fits}
 use Rattle.decode_near_places.specs.Internal.{differing}
-use Rattle.decode_near.specs.Nearness.{encode_refusal, near_answer}
+use Rattle.decode_near.specs.Nearness.{encode_refusal, near_answer, near_values}
 
 -- a question is answered no
-pub near_refused : (q m n : ℕ) (s w : List ℕ) → n ≡ encode_refusal q m s w → n ≢ 0 → refused n ≡ near_answer q m s w
+refused_with : (n : ℕ) (r : Refusal) (values : List ℕ) → number r ≡ n → refused (number r) ≡ answer n values
+refused_with n r values e = sym (refused_answer r values) ∙ ap (λ k. answer k values) e
+
+pub near_refused : (q m : ℕ) (s w : List ℕ) (r : Refusal) → number r ≡ encode_refusal q m s w → refused (number r) ≡ near_answer q m s w
 unfolding near_answer
-near_refused q m n s w e d = ap refused e ∙ sym (answer_no _ _ (λ z. d (e ∙ z)))
+near_refused q m s w r e = refused_with _ r _ e
 
 -- question 2 is answered no
 pub near_variables_no : (q m : ℕ) (s w : List ℕ) → is_alphabet q ≡ true → (2 ≤ m → m ≤ 8 → ⊥) → refused 2 ≡ near_answer q m s w
-near_variables_no q m s w a h = near_refused q m 2 s w (variables_no q m s w a h).0 (λ z. absurd (omega (arith, z)))
-
--- an answer for a literal j is one for m where j is m
-pub near_at : (q m j : ℕ) (s w : List ℕ) (a : Answer) → j ≡ m → a ≡ near_answer q j s w → a ≡ near_answer q m s w
-near_at q m j s w a e d = rw e at d
+near_variables_no q m s w a h = near_refused q m s w Variables (variables_no q m s w a h).0
 
 -- fewer than a quarter, counted four times
 fewer_than : (d k : ℕ) → ltb d k ≡ ltb (4 * d) (4 * k)
@@ -43,6 +45,12 @@ fewer_than d k = go (dec_le k d)
     go : Dec (k ≤ d) → ltb d k ≡ ltb (4 * d) (4 * k)
     go (yes h) = le-ltb d k h ∙ sym (le-ltb (4 * d) (4 * k) (omega arith))
     go (no h) = lt-ltb d k (omega arith) ∙ sym (lt-ltb (4 * d) (4 * k) (omega arith))
+
+-- yes is 1, and no is 0
+values_are : (b : Bool) → near_values b ≡ cond b 1 0 ∷ []
+unfolding near_values
+values_are true = refl
+values_are false = refl
 
 -- where v holds the word of s, it differs from w in as many places as w has wrong
 coded_distance : (q m : ℕ) (s w v : List ℕ) → Coded q m s v → differing v w 0 (2 ^ m) ≡ distance q m (at s) (at w)
@@ -73,10 +81,10 @@ module _ (q m : ℕ) (s w : List ℕ) (e : encode_refusal q m s w ≡ 0) where
         (omega (arith, z, pow_pos (m - 2)), omega (arith, z, top), size ∙ four_quarters, omega (arith, size, room, g.size))
 
     -- the answer is whether fewer than a quarter of the places differ from the message's word
-    pub near_told : (c v : List ℕ) (b r : Bool) → Written q m s c v → r ≡ ltb (differing v w 0 (4 * k)) k → r ≡ b → accepted (cond b 1 0 ∷ []) ≡ near_answer q m s w
+    pub near_told : (c v : List ℕ) (b : Bool) → Written q m s c v → b ≡ ltb (differing v w 0 (4 * k)) k → accepted (near_values b) ≡ near_answer q m s w
     unfolding near_answer is_near
-    near_told c v b r g h f =
+    near_told c v b g h =
         let wrong : ℕ = distance q m (at s) (at w) in
         let d : differing v w 0 (4 * k) ≡ wrong = ap (λ n. differing v w 0 n) (sym four_quarters) ∙ coded_distance q m s w v g.coded in
-        let n : b ≡ ltb (4 * wrong) (2 ^ m) = sym f ∙ h ∙ ap (λ x. ltb x k) d ∙ fewer_than wrong k ∙ ap (λ x. ltb (4 * wrong) x) (sym four_quarters) in
-        ap (λ t. accepted (cond t 1 0 ∷ [])) n ∙ sym (answer_yes _ _ e)
+        let n : b ≡ ltb (4 * wrong) (2 ^ m) = h ∙ ap (λ x. ltb x k) d ∙ fewer_than wrong k ∙ ap (λ x. ltb (4 * wrong) x) (sym four_quarters) in
+        ap accepted (values_are b) ∙ ap (λ t. accepted (cond t 1 0 ∷ [])) n ∙ sym (answer_yes _ _ e)

@@ -1,9 +1,7 @@
 -- What is_near answers, for every input (docs/REQUIREMENTS.md: Confirm).
-use Rattle.std.specs.Prelude.{ℕ, cond, List, [], ◌∷◌}
+use Rattle.std.specs.Prelude.{ℕ, Bool, true, false, cond, List, [], ◌∷◌}
 use Rattle.code_theory.specs.Nearest.{is_near}
-use Rattle.code_theory.specs.Question.{Answer, accepted, refused, answer}
-use Rattle.decode_near.specs.declared.Nearness.{Nearness}
-use Rattle.decode_near.specs.declared.Nearness.TheVariants as N
+use Rattle.code_theory.specs.Question.{Answer, answer}
 -- Confirm asks 1, 2, 5, 6, 7, which are the questions of Write
 unfoldable pub use Rattle.encode_by_length.specs.Encoder.{encode_refusal}
 
@@ -11,8 +9,7 @@ unfoldable pub use Rattle.encode_by_length.specs.Encoder.{encode_refusal}
 unfoldable pub near_answer : ℕ → ℕ → List ℕ → List ℕ → Answer
 near_answer q m message word = answer (encode_refusal q m message word) (cond (is_near q m word message) 1 0 ∷ [])
 
--- the number of docs/REQUIREMENTS.md, or its yes or no, for each case of the enum
-unfoldable pub nearness : Nearness → Answer
-nearness N.Near = accepted (1 ∷ [])
-nearness N.NotNear = accepted (0 ∷ [])
-nearness (N.Refused number) = refused number
+-- the yes or no of docs/REQUIREMENTS.md for each of the two answers
+unfoldable pub near_values : Bool → List ℕ
+near_values true = 1 ∷ []
+near_values false = 0 ∷ []

@@ -2,29 +2,20 @@
 #![tactic(auto)]
 
 ghost use Rattle.std.specs.Prelude.{◌≡◌, ◌+◌, ◌*◌, ◌<◌, ◌≤◌, ltb, length};
-ghost use Rattle.code_theory.specs.Sum.{at};
-ghost use Rattle.code_theory.specs.Modular.{differ};
 ghost use Rattle.decode_near_places.specs.Internal.{differing};
 
-// 1 where the two differ at place i, and 0 where they are equal. A symbol outside the alphabet is equal to none of a codeword.
-fn differs(code: &[u8], word: &[u8], i: usize) -> u8
-    requires { (i < length code.now) × (i < length word.now) }
-    ensures { (result ≡ differ (at code.now i) (at word.now i)) × (result ≤ 1) }
-{
-    if code[i] == word[i] { 0 } else { 1 }
-}
-
-// In how many places of a run the two differ. The run has `places` places, from place `first` on. The count is a byte, so that the compiler
-// takes sixteen places at once.
-fn differences(code: &[u8], word: &[u8], first: usize, places: usize) -> usize
-    requires { (places ≤ 64) × (first + places ≤ length word.now) × (length word.now ≤ length code.now) }
-    ensures { (result ≡ differing code.now word.now first places) × (result ≤ places) }
+// In how many places the two differ, which are equally long. A symbol outside the alphabet is equal to none of a codeword. The count is a
+// byte, so that the compiler takes sixteen places at once. The index reads the codeword: with the two slices zipped, a short word takes two
+// instructions more, for which the bar of docs/BENCHMARKS.md has no room at 16 places, and a long one that is just near up to a twelfth.
+fn differences(code: &[u8], word: &[u8]) -> usize
+    requires { (length word.now ≤ 64) × (length code.now ≡ length word.now) }
+    ensures { (result ≡ differing code.now word.now 0 (length word.now)) × (result ≤ length word.now) }
 {
     let mut wrong: u8 = 0;
-    for i in first..first + places {
-        wrong += differs(code, word, i);
+    for (i, w) in word.iter().enumerate() {
+        wrong += u8::from(code[i] != *w);
     }
-    wrong as usize
+    usize::from(wrong)
 }
 
 // How many places the next run has, where `wrong` places differ so far and `left` places are not compared yet. From 64 places on it has as
@@ -38,15 +29,11 @@ fn run_length(quarter: usize, wrong: usize, left: usize) -> usize
     if quarter < 16 {
         return 1;
     }
-    if quarter - wrong < left {
-        quarter - wrong
-    } else {
-        left
-    }
+    left.min(quarter - wrong)
 }
 
 // Whether the two differ in fewer than a quarter of all places. The loop goes over the places, from run to run, and stops at the place
-// where the quarter is reached.
+// where the quarter is reached. A loop that breaks is the form that docs/REQUIREMENTS.md names.
 pub fn few_differ(code: &[u8], word: &[u8], quarter: usize) -> bool
     requires { (0 < quarter) × (quarter ≤ 64) × (length word.now ≡ 4 * quarter) × (length word.now ≤ length code.now) }
     ensures { result ≡ ltb (differing code.now word.now 0 (4 * quarter)) quarter }
@@ -59,7 +46,7 @@ pub fn few_differ(code: &[u8], word: &[u8], quarter: usize) -> bool
             break true;
         }
         let places = run_length(quarter, wrong, n - i);
-        let found = differences(code, word, i, places);
+        let found = differences(&code[i..i + places], &word[i..i + places]);
         if found != 0 {
             wrong += found;
             if wrong >= quarter {

@@ -5,6 +5,7 @@ use mathlib.Core.List.{List}
 use native.Mathlib.Omega.{arith}
 use lib.ListN.{take, length-take}
 use lib.Seq.{get_or-take}
+use Rattle.std.specs.Prelude.{Option, Some, None}
 use Rattle.code_theory.specs.Sum.{at}
 use Rattle.code_theory.specs.Code.{Symbols}
 use Rattle.code_theory.specs.Near.{distance, Near}
@@ -14,8 +15,7 @@ use Rattle.code_theory.proofs.CodeLaws.{distance_ext}
 use Rattle.code_theory.proofs.MarginLaws.{margin_ext}
 use Rattle.code_theory.proofs.NearestLaws.{Reads, only_read}
 use Rattle.decode_reading.specs.Internal.{Measured, Settled}
-use Rattle.decode_reading.specs.declared.Outcome.{Outcome}
-use Rattle.decode_reading.specs.declared.Outcome.TheVariants.{Read, Doubtful}
+use Rattle.decode_reading.specs.declared.Reading.{Reading}
 
 module _ (q m : ℕ) (w d : List ℕ) (wrong : ℕ) (c : Measured q m w d wrong) where
   -- the message
@@ -36,7 +36,7 @@ module _ (q m : ℕ) (w d : List ℕ) (wrong : ℕ) (c : Measured q m w d wrong)
 
   -- THE READING: the message is read where it is near
   pub settled_read : (s₀ s : List ℕ) (least : ℕ) → 4 * wrong < 2 ^ m → s ≡ take (suc m) d → least ≡ margin q m (at d) (at w)
-      → Settled q m w s₀ s (Read (record { wrong = wrong; margin = least }))
+      → Settled q m w s₀ s (Some (record { wrong = wrong; margin = least }))
   unfolding Settled near_distance near_margin
   settled_read s₀ s least l f g =
       let n : Near q m (at t) (at w) = omega (arith, its_distance) in
@@ -48,13 +48,6 @@ module _ (q m : ℕ) (w d : List ℕ) (wrong : ℕ) (c : Measured q m w d wrong)
       )
 
   -- and else the word is doubtful
-  pub settled_doubtful : (s₀ : List ℕ) → 2 ^ m ≤ 4 * wrong → Settled q m w s₀ s₀ Doubtful
+  pub settled_doubtful : (s₀ : List ℕ) → 2 ^ m ≤ 4 * wrong → Settled q m w s₀ s₀ None
   unfolding Settled
   settled_doubtful s₀ l = (reads.far (λ n. absurd (omega (arith, its_distance, n))), refl)
-
--- what holds of one outcome holds of an equal one, and what holds of the number n holds of m, which is n
-pub settled_as : (q m : ℕ) (w s₀ s : List ℕ) (r o : Outcome) → r ≡ o → Settled q m w s₀ s o → Settled q m w s₀ s r
-settled_as q m w s₀ s r o e h = subst (Settled q m w s₀ s) (sym e) h
-
-pub settled_at : (q m n : ℕ) (w s₀ s : List ℕ) (r : Outcome) → m ≡ n → Settled q n w s₀ s r → Settled q m w s₀ s r
-settled_at q m n w s₀ s r e h = subst (λ k. Settled q k w s₀ s r) (sym e) h

@@ -6,6 +6,7 @@ use mathlib.Core.List.{List}
 use native.Mathlib.Omega.{arith}
 use native.Mathlib.Nat.{zero-add, add_comm}
 use native.Mathlib.Decide.{dec_lt}
+use lib.ListN.{length}
 use Rattle.code_theory.specs.Sum.{sum, at}
 use Rattle.code_theory.specs.Index.{bit, if_clear}
 use Rattle.code_theory.specs.Modular.{sub_mod, same}
@@ -22,32 +23,32 @@ use Rattle.code_theory.proofs.VoteLaws.{tally_own, residues_exact}
 use Rattle.swar_theory.specs.Internal.{digit}
 use Rattle.swar_lanes.specs.Internal.{offset, lane_of, place_of, Lanes, LanesBelow, Held, VotesIn}
 use Rattle.swar_lanes.proofs.LaneLaws.{lane_lt, lane_place}
-use Rattle.decode_short_errors.specs.Internal.{plain}
+use Rattle.decode_short_errors.specs.Internal.{plain, SymbolsBelow}
 use Rattle.swar_majority.specs.Internal.{three_of, seven_of, fifteen_of, Most}
 use Rattle.decode_short_candidate.specs.Internal.{Rest, message, CandidateOf, CandidateOfBoth}
 use Rattle.decode_short_candidate.proofs.LaneVotes.{held_at, symbol_below, vote_at_lem, open_of, all_of, open_is, all_is}
 use Rattle.decode_short_candidate.proofs.LaneVotes.{open_4_0, open_4_1, open_8_0, open_8_1, open_8_2, open_16_0, open_16_1, open_16_2, open_16_3, all_8, all_halves, all_first}
 
 -- `plain` is the word of the coefficients of s, where the coefficients are equal
-plain_3 : (q c0 c1 c2 : ℕ) (s : ℕ → ℕ) → c0 ≡ s 1 → c1 ≡ s 2 → c2 ≡ s 3 → (i : ℕ) → plain q c0 c1 c2 0 i ≡ linear 3 (λ k. s (suc k)) i % q
-unfolding plain linear sum
+plain_3 : (q c0 c1 c2 : ℕ) (s : ℕ → ℕ) → c0 ≡ s 1 → c1 ≡ s 2 → c2 ≡ s 3 → (i : ℕ) → plain q (message 0 c0 c1 c2 0 0) i ≡ linear 3 (λ k. s (suc k)) i % q
+unfolding plain linear sum message
 plain_3 q c0 c1 c2 s e0 e1 e2 i =
     let e : s 1 * bit 0 i + s 2 * bit 1 i + s 3 * bit 2 i + 0 * bit 3 i ≡ 0 + s 1 * bit 0 i + s 2 * bit 1 i + s 3 * bit 2 i = omega arith in
     rw (e0, e1, e2) (ap (λ z. z % q) e)
 
-plain_4 : (q c0 c1 c2 c3 : ℕ) (s : ℕ → ℕ) → c0 ≡ s 1 → c1 ≡ s 2 → c2 ≡ s 3 → c3 ≡ s 4 → (i : ℕ) → plain q c0 c1 c2 c3 i ≡ linear 4 (λ k. s (suc k)) i % q
-unfolding plain linear sum
+plain_4 : (q c0 c1 c2 c3 : ℕ) (s : ℕ → ℕ) → c0 ≡ s 1 → c1 ≡ s 2 → c2 ≡ s 3 → c3 ≡ s 4 → (i : ℕ) → plain q (message 0 c0 c1 c2 c3 0) i ≡ linear 4 (λ k. s (suc k)) i % q
+unfolding plain linear sum message
 plain_4 q c0 c1 c2 c3 s e0 e1 e2 e3 i =
     let e : s 1 * bit 0 i + s 2 * bit 1 i + s 3 * bit 2 i + s 4 * bit 3 i ≡ 0 + s 1 * bit 0 i + s 2 * bit 1 i + s 3 * bit 2 i + s 4 * bit 3 i = omega arith in
     rw (e0, e1, e2, e3) (ap (λ z. z % q) e)
 
 -- the lane of place j has the vote of place j for the constant
-residue_at : (q m x c0 c1 c2 c3 d : ℕ) (w : List ℕ) (s : ℕ → ℕ) → Rest q x c0 c1 c2 c3 d → Held w 0 x
-    → ((i : ℕ) → i < 16 → plain q c0 c1 c2 c3 i ≡ linear m (λ k. s (suc k)) i % q) → (j : ℕ) → j < 16 → place_of d j ≡ residue q m s (at w) j
+residue_at : (q m x : ℕ) (z : List ℕ) (d : ℕ) (w : List ℕ) (s : ℕ → ℕ) → Rest q x z d → Held w 0 x
+    → ((i : ℕ) → i < 16 → plain q z i ≡ linear m (λ k. s (suc k)) i % q) → (j : ℕ) → j < 16 → place_of d j ≡ residue q m s (at w) j
 unfolding residue place_of
-residue_at q m x c0 c1 c2 c3 d w s left held e j h =
+residue_at q m x z d w s left held e j h =
     left (lane_of j) (lane_lt j h)
-    ∙ ap₂ (sub_mod q) (held_at w 0 x held j h ∙ ap (at w) (zero-add j)) (ap (plain q c0 c1 c2 c3) (lane_place j h) ∙ e j h)
+    ∙ ap₂ (sub_mod q) (held_at w 0 x held j h ∙ ap (at w) (zero-add j)) (ap (plain q z) (lane_place j h) ∙ e j h)
     ∙ sub_mod_mod q (at w j) (linear m (λ k. s (suc k)) j)
 
 -- for coefficient 4 the vote of a place is a lane of y minus the same lane of x
@@ -79,10 +80,10 @@ module _ (q m x : ℕ) (al : is_alphabet q ≡ true) (s : ℕ → ℕ) (w : List
   first_below b i h = omega (arith, symbol_below q w 0 x held b i h, ap (at w) (zero-add i))
 
   -- the votes for the constant, up to 16 places
-  own_all : (c0 c1 c2 c3 d : ℕ) → LanesBelow q x → 2 ^ m ≤ 16 → Rest q x c0 c1 c2 c3 d
-      → ((i : ℕ) → plain q c0 c1 c2 c3 i ≡ linear m (λ k. s (suc k)) i % q) → all_of (2 ^ m) d (s 0) + distance q m s (at w) ≡ 2 ^ m
-  own_all c0 c1 c2 c3 d b n left e =
-      ap (λ z. z + distance q m s (at w)) (all_is (2 ^ m) d (residue q m s (at w)) n (residue_at q m x c0 c1 c2 c3 d w s left held (λ i h. e i)) (s 0))
+  own_all : (z : List ℕ) (d : ℕ) → LanesBelow q x → 2 ^ m ≤ 16 → Rest q x z d
+      → ((i : ℕ) → plain q z i ≡ linear m (λ k. s (suc k)) i % q) → all_of (2 ^ m) d (s 0) + distance q m s (at w) ≡ 2 ^ m
+  own_all z d b n left e =
+      ap (λ z. z + distance q m s (at w)) (all_is (2 ^ m) d (residue q m s (at w)) n (residue_at q m x z d w s left held (λ i h. e i)) (s 0))
       ∙ exactly q m s (at w) (alphabet_positive q al) (hs 0 (omega arith)) (λ i h. first_below b i (omega (arith, h, n)))
 
   module _ (y : ℕ) (held' : Held w 16 y) where
@@ -116,9 +117,9 @@ module _ (q m x : ℕ) (al : is_alphabet q ≡ true) (s : ℕ → ℕ) (w : List
         across j h = across_at q x y d w held held' e j h
 
     -- the votes for the constant of the first sixteen of 32 places
-    own_first : (c0 c1 c2 c3 d : ℕ) → m ≡ 5 → LanesBelow q x → LanesBelow q y → Rest q x c0 c1 c2 c3 d
-        → ((i : ℕ) → i < 16 → plain q c0 c1 c2 c3 i ≡ linear m (λ k. s (suc k)) i % q) → 16 ≤ all_of 16 d (s 0) + distance q m s (at w)
-    own_first c0 c1 c2 c3 d five b b' left e =
+    own_first : (z : List ℕ) (d : ℕ) → m ≡ 5 → LanesBelow q x → LanesBelow q y → Rest q x z d
+        → ((i : ℕ) → i < 16 → plain q z i ≡ linear m (λ k. s (suc k)) i % q) → 16 ≤ all_of 16 d (s 0) + distance q m s (at w)
+    own_first z d five b b' left e =
         omega (
           arith,
           exact,
@@ -126,7 +127,7 @@ module _ (q m x : ℕ) (al : is_alphabet q ≡ true) (s : ℕ → ℕ) (w : List
           ap (λ z. sum (2 ^ z) (λ i. same (residue q m s (at w) i) (s 0))) five,
           sum_split 16 16 (λ i. same (residue q m s (at w) i) (s 0)),
           sum_bound 16 1 (λ i. same (residue q m s (at w) (16 + i)) (s 0)) (λ i h. same_le (residue q m s (at w) (16 + i)) (s 0)),
-          all_is 16 d (residue q m s (at w)) (omega arith) (residue_at q m x c0 c1 c2 c3 d w s left held e) (s 0),
+          all_is 16 d (residue q m s (at w)) (omega arith) (residue_at q m x z d w s left held e) (s 0),
         )
       where
         below : (i : ℕ) → i < 2 ^ m → at w i < q
@@ -142,8 +143,12 @@ module _ (q m x : ℕ) (al : is_alphabet q ≡ true) (s : ℕ → ℕ) (w : List
         exact : sum (2 ^ m) (λ i. same (residue q m s (at w) i) (s 0)) + distance q m s (at w) ≡ 2 ^ m
         exact = exactly q m s (at w) (alphabet_positive q al) (hs 0 (omega arith)) below
 
+six : (a c0 c1 c2 c3 c4 : ℕ) → length (message a c0 c1 c2 c3 c4) ≡ 6
+unfolding message
+six a c0 c1 c2 c3 c4 = refl
+
 -- every symbol of a candidate is below q
-below_6 : (q a c0 c1 c2 c3 c4 : ℕ) → a < q → c0 < q → c1 < q → c2 < q → c3 < q → c4 < q → (k : ℕ) → k < 6 → at (message a c0 c1 c2 c3 c4) k < q
+pub below_6 : (q a c0 c1 c2 c3 c4 : ℕ) → a < q → c0 < q → c1 < q → c2 < q → c3 < q → c4 < q → SymbolsBelow q (message a c0 c1 c2 c3 c4)
 unfolding message
 below_6 q a c0 c1 c2 c3 c4 ha h0 h1 h2 h3 h4 zero l = ha
 below_6 q a c0 c1 c2 c3 c4 ha h0 h1 h2 h3 h4 (suc zero) l = h0
@@ -193,8 +198,8 @@ module _ (q x : ℕ) (al : is_alphabet q ≡ true) (s : ℕ → ℕ) (w : List �
   most_8_2 : (d : ℕ) → VotesIn q 2 x d → 2 ≤ three_of d 2 4 (s 3)
   most_8_2 d e = omega (arith, near, own_open q 3 x al s w hs held 2 d (omega arith) (omega arith) (omega arith) e, open_8_2 d (s 3), same_le (digit 4 d 6) (s 3))
 
-  most_8 : (c0 c1 c2 d : ℕ) → LanesBelow q x → c0 ≡ s 1 → c1 ≡ s 2 → c2 ≡ s 3 → Rest q x c0 c1 c2 0 d → 2 ≤ three_of d 2 4 (s 0)
-  most_8 c0 c1 c2 d b e0 e1 e2 left = omega (arith, near, own_all q 3 x al s w hs held c0 c1 c2 0 d b (omega arith) left (plain_3 q c0 c1 c2 s e0 e1 e2), all_8 d (s 0))
+  most_8 : (c0 c1 c2 d : ℕ) → LanesBelow q x → c0 ≡ s 1 → c1 ≡ s 2 → c2 ≡ s 3 → Rest q x (message 0 c0 c1 c2 0 0) d → 2 ≤ three_of d 2 4 (s 0)
+  most_8 c0 c1 c2 d b e0 e1 e2 left = omega (arith, near, own_all q 3 x al s w hs held (message 0 c0 c1 c2 0 0) d b (omega arith) left (plain_3 q c0 c1 c2 s e0 e1 e2), all_8 d (s 0))
 
 -- 16 PLACES: a near message has most of the votes that are counted
 module _ (q x : ℕ) (al : is_alphabet q ≡ true) (s : ℕ → ℕ) (w : List ℕ) (hs : Below q 4 s) (held : Held w 0 x) (near : Near q 4 s (at w)) where
@@ -210,9 +215,9 @@ module _ (q x : ℕ) (al : is_alphabet q ≡ true) (s : ℕ → ℕ) (w : List �
   most_16_3 : (d : ℕ) → VotesIn q 3 x d → 4 ≤ seven_of d 2 4 8 (s 4)
   most_16_3 d e = omega (arith, near, own_open q 4 x al s w hs held 3 d (omega arith) (omega arith) (omega arith) e, open_16_3 d (s 4), same_le (digit 4 d 14) (s 4))
 
-  most_16 : (c0 c1 c2 c3 d : ℕ) → LanesBelow q x → c0 ≡ s 1 → c1 ≡ s 2 → c2 ≡ s 3 → c3 ≡ s 4 → Rest q x c0 c1 c2 c3 d → 4 ≤ seven_of d 2 4 8 (s 0)
+  most_16 : (c0 c1 c2 c3 d : ℕ) → LanesBelow q x → c0 ≡ s 1 → c1 ≡ s 2 → c2 ≡ s 3 → c3 ≡ s 4 → Rest q x (message 0 c0 c1 c2 c3 0) d → 4 ≤ seven_of d 2 4 8 (s 0)
   most_16 c0 c1 c2 c3 d b e0 e1 e2 e3 left =
-      omega (arith, near, own_all q 4 x al s w hs held c0 c1 c2 c3 d b (omega arith) left (plain_4 q c0 c1 c2 c3 s e0 e1 e2 e3), all_first d (s 0), open_16_3 d (s 0), same_le (digit 4 d 14) (s 0))
+      omega (arith, near, own_all q 4 x al s w hs held (message 0 c0 c1 c2 c3 0) d b (omega arith) left (plain_4 q c0 c1 c2 c3 s e0 e1 e2 e3), all_first d (s 0), open_16_3 d (s 0), same_le (digit 4 d 14) (s 0))
 
 -- 32 PLACES: a near message has most of the votes that are counted
 module _ (q x y : ℕ) (al : is_alphabet q ≡ true) (s : ℕ → ℕ) (w : List ℕ) (hs : Below q 5 s) (held : Held w 0 x) (held' : Held w 16 y) (near : Near q 5 s (at w)) where
@@ -236,13 +241,13 @@ module _ (q x y : ℕ) (al : is_alphabet q ≡ true) (s : ℕ → ℕ) (w : List
   unfolding fifteen_of
   most_32_4 d f = omega (arith, near, own_last q 5 x al s w hs held y held' d refl f, all_halves d (s 5), open_16_3 d (s 5), open_16_3 (d / 2 ^ 4) (s 5), same_le (digit 4 d 14) (s 5))
 
-  most_32 : (c0 c1 c2 c3 d : ℕ) → LanesBelow q x → LanesBelow q y → c0 ≡ s 1 → c1 ≡ s 2 → c2 ≡ s 3 → c3 ≡ s 4 → Rest q x c0 c1 c2 c3 d → 8 ≤ fifteen_of d (d / 2 ^ 4) 2 4 8 (s 0)
+  most_32 : (c0 c1 c2 c3 d : ℕ) → LanesBelow q x → LanesBelow q y → c0 ≡ s 1 → c1 ≡ s 2 → c2 ≡ s 3 → c3 ≡ s 4 → Rest q x (message 0 c0 c1 c2 c3 0) d → 8 ≤ fifteen_of d (d / 2 ^ 4) 2 4 8 (s 0)
   unfolding fifteen_of
   most_32 c0 c1 c2 c3 d b b' e0 e1 e2 e3 left =
       omega (
         arith,
         near,
-        own_first q 5 x al s w hs held y held' c0 c1 c2 c3 d refl b b' left (λ i h. plain_4 q c0 c1 c2 c3 s e0 e1 e2 e3 i ∙ ap (λ z. z % q) (sym (linear_low 4 5 (λ k. s (suc k)) i (omega arith) h))),
+        own_first q 5 x al s w hs held y held' (message 0 c0 c1 c2 c3 0) d refl b b' left (λ i h. plain_4 q c0 c1 c2 c3 s e0 e1 e2 e3 i ∙ ap (λ z. z % q) (sym (linear_low 4 5 (λ k. s (suc k)) i (omega arith) h))),
         all_halves d (s 0),
         open_16_3 d (s 0),
         open_16_3 (d / 2 ^ 4) (s 0),
@@ -268,6 +273,7 @@ pub candidate_4 : (q x d0 d1 a c0 c1 : ℕ) → is_alphabet q ≡ true → Lanes
     → Most q 1 (same (digit 4 x 0)) a
     → CandidateOf q 2 x (message a c0 c1 0 0 0)
 candidate_4 q x d0 d1 a c0 c1 al b v0 h0 v1 h1 h w held = record {
+  size = six _ _ _ _ _ _;
   below = let z = alphabet_positive q al in below_6 q a c0 c1 0 0 0 h.fits h0.fits h1.fits z z z;
   only = λ s hs near.
       let e0 = h0.is (s 1) (hs 1 (omega arith)) (most_4_0 q x al s w hs held near d0 v0) in
@@ -281,9 +287,10 @@ pub candidate_8 : (q x d0 d1 d2 d a c0 c1 c2 : ℕ) → is_alphabet q ≡ true �
     → VotesIn q 0 x d0 → Most q 2 (three_of d0 4 8) c0
     → VotesIn q 1 x d1 → Most q 2 (three_of d1 2 8) c1
     → VotesIn q 2 x d2 → Most q 2 (three_of d2 2 4) c2
-    → Rest q x c0 c1 c2 0 d → Most q 2 (three_of d 2 4) a
+    → Rest q x (message 0 c0 c1 c2 0 0) d → Most q 2 (three_of d 2 4) a
     → CandidateOf q 3 x (message a c0 c1 c2 0 0)
 candidate_8 q x d0 d1 d2 d a c0 c1 c2 al b v0 h0 v1 h1 v2 h2 left h w held = record {
+  size = six _ _ _ _ _ _;
   below = let z = alphabet_positive q al in below_6 q a c0 c1 c2 0 0 h.fits h0.fits h1.fits h2.fits z z;
   only = λ s hs near.
       let e0 = h0.is (s 1) (hs 1 (omega arith)) (most_8_0 q x al s w hs held near d0 v0) in
@@ -299,9 +306,10 @@ pub candidate_16 : (q x d0 d1 d2 d3 d a c0 c1 c2 c3 : ℕ) → is_alphabet q ≡
     → VotesIn q 1 x d1 → Most q 4 (seven_of d1 2 8 1) c1
     → VotesIn q 2 x d2 → Most q 4 (seven_of d2 2 4 1) c2
     → VotesIn q 3 x d3 → Most q 4 (seven_of d3 2 4 8) c3
-    → Rest q x c0 c1 c2 c3 d → Most q 4 (seven_of d 2 4 8) a
+    → Rest q x (message 0 c0 c1 c2 c3 0) d → Most q 4 (seven_of d 2 4 8) a
     → CandidateOf q 4 x (message a c0 c1 c2 c3 0)
 candidate_16 q x d0 d1 d2 d3 d a c0 c1 c2 c3 al b v0 h0 v1 h1 v2 h2 v3 h3 left h w held = record {
+  size = six _ _ _ _ _ _;
   below = below_6 q a c0 c1 c2 c3 0 h.fits h0.fits h1.fits h2.fits h3.fits (alphabet_positive q al);
   only = λ s hs near.
       let e0 = h0.is (s 1) (hs 1 (omega arith)) (most_16_0 q x al s w hs held near d0 v0) in
@@ -319,9 +327,10 @@ pub candidate_32 : (q x y d0 e0 d1 e1 d2 e2 d3 e3 d4 d a c0 c1 c2 c3 c4 : ℕ) �
     → VotesIn q 2 x d2 → VotesIn q 2 y e2 → Most q 8 (fifteen_of d2 e2 2 4 1) c2
     → VotesIn q 3 x d3 → VotesIn q 3 y e3 → Most q 8 (fifteen_of d3 e3 2 4 8) c3
     → Lanes d4 (λ t. sub_mod q (digit 4 y t) (digit 4 x t)) → Most q 8 (fifteen_of d4 (d4 / 2 ^ 4) 2 4 8) c4
-    → Rest q x c0 c1 c2 c3 d → Most q 8 (fifteen_of d (d / 2 ^ 4) 2 4 8) a
+    → Rest q x (message 0 c0 c1 c2 c3 0) d → Most q 8 (fifteen_of d (d / 2 ^ 4) 2 4 8) a
     → CandidateOfBoth q 5 x y (message a c0 c1 c2 c3 c4)
 candidate_32 q x y d0 e0 d1 e1 d2 e2 d3 e3 d4 d a c0 c1 c2 c3 c4 al b b' v0 u0 h0 v1 u1 h1 v2 u2 h2 v3 u3 h3 v4 h4 left h w held held' = record {
+  size = six _ _ _ _ _ _;
   below = below_6 q a c0 c1 c2 c3 c4 h.fits h0.fits h1.fits h2.fits h3.fits h4.fits;
   only = λ s hs near.
       let i0 = h0.is (s 1) (hs 1 (omega arith)) (most_32_0 q x y al s w hs held held' near d0 e0 v0 u0) in

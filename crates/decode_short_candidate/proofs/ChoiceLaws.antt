@@ -3,6 +3,7 @@ use Prim.Native.Nat.{ℕ, ◌+◌, ◌-◌, ◌%◌, ◌^◌, ◌≤◌, ◌<◌
 use mathlib.Core.Path.{◌≡◌, refl, ap, sym, ◌∙◌}
 use mathlib.Core.Logic.{inl, inr}
 use mathlib.Core.Bool.{true}
+use mathlib.Core.List.{List}
 use native.Mathlib.Omega.{arith}
 use native.Mathlib.Decide.{ℕ_discrete}
 use native.Mathlib.Nat.{mod-lt, mod-eq_of_lt, div-one}
@@ -22,9 +23,9 @@ use Rattle.swar_majority.specs.Internal.{Most}
 use Rattle.decode_short_candidate.specs.Internal.{Rest}
 
 -- the lanes of the word minus those of the code
-pub rest_is : (q x c0 c1 c2 c3 code d : ℕ) → Lanes code (λ t. plain q c0 c1 c2 c3 (offset t))
-    → Lanes d (λ t. sub_mod q (digit 4 x t) (digit 4 code t)) → Rest q x c0 c1 c2 c3 d
-rest_is q x c0 c1 c2 c3 code d e f t h = f t h ∙ ap (sub_mod q (digit 4 x t)) (e t h)
+pub rest_is : (q x : ℕ) (d : List ℕ) (code r : ℕ) → Lanes code (λ t. plain q d (offset t))
+    → Lanes r (λ t. sub_mod q (digit 4 x t) (digit 4 code t)) → Rest q x d r
+rest_is q x d code r e f t h = f t h ∙ ap (sub_mod q (digit 4 x t)) (e t h)
 
 -- an `and` with q - 1 leaves the remainder by q
 pub symbol_is : (q x : ℕ) → is_alphabet q ≡ true → bit_and x (q - 1) ≡ x % q

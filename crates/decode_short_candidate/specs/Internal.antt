@@ -1,27 +1,23 @@
 -- The candidate of a word in lanes: the only message that can be near it.
-use Rattle.std.specs.Prelude.{ℕ, ◌<◌, List, [], ◌∷◌}
+use Rattle.std.specs.Prelude.{ℕ, ◌<◌, ◌≡◌, List, [], ◌∷◌, length}
 use Rattle.code_theory.specs.Sum.{at}
 use Rattle.code_theory.specs.Modular.{sub_mod}
 use Rattle.code_theory.specs.Internal.{OnlyNear}
 use Rattle.swar_theory.specs.Internal.{digit}
 use Rattle.swar_lanes.specs.Internal.{offset, Lanes, Held}
 use Rattle.decode_short_errors.specs.Internal.{plain}
-use Rattle.decode_short_candidate.specs.declared.Candidate.{Candidate}
 
--- the lanes of d are those of x minus the word of four coefficients, modulo q
-abbrev pub Rest : ℕ → ℕ → ℕ → ℕ → ℕ → ℕ → ℕ → Type 0
-Rest q x c0 c1 c2 c3 d = Lanes d (λ t. sub_mod q (digit 4 x t) (plain q c0 c1 c2 c3 (offset t)))
+-- the lanes of r are those of x minus the word of the first four coefficients of the message d, modulo q
+abbrev pub Rest : ℕ → ℕ → List ℕ → ℕ → Type 0
+Rest q x d r = Lanes r (λ t. sub_mod q (digit 4 x t) (plain q d (offset t)))
 
 -- the message with the constant a and five coefficients; a candidate has 0 for those from m on
 unfoldable pub message : ℕ → ℕ → ℕ → ℕ → ℕ → ℕ → List ℕ
 message a c0 c1 c2 c3 c4 = a ∷ c0 ∷ c1 ∷ c2 ∷ c3 ∷ c4 ∷ []
 
--- the message that a candidate holds
-abbrev pub message_of : Candidate → List ℕ
-message_of g = message g.constant g.c0 g.c1 g.c2 g.c3 g.c4
-
 -- d has six symbols below q, and no other message than the one at its front can be near the word w of 2 ^ m places
 pub record OnlyCandidate (q m : ℕ) (w d : List ℕ) : Type 0 where
+  pub size : length d ≡ 6
   pub below : (k : ℕ) → k < 6 → at d k < q
   pub only : OnlyNear q m w d
 

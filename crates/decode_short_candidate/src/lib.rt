@@ -3,20 +3,21 @@
 // the four-bit lanes of one number, or of two, as swar_lanes packs it.
 #![tactic(auto)]
 
-ghost use Rattle.std.specs.Prelude.{◌≡◌, true, ◌%◌, ◌^◌, ◌<◌};
+ghost use Rattle.std.specs.Prelude.{◌≡◌, true, ◌%◌, ◌^◌, ◌<◌, ◌≤◌, ◌+◌, ◌-◌, drop, replicate};
 ghost use Rattle.code_theory.specs.Question.{is_alphabet};
 ghost use Rattle.swar_lanes.specs.Internal.{LanesBelow, lane_bit};
 ghost use Rattle.swar_majority.specs.Internal.{three_of, seven_of, fifteen_of, Most};
-ghost use Rattle.decode_short_candidate.specs.Internal.{Rest, message_of, CandidateOf, CandidateOfBoth};
+ghost use Rattle.decode_short_errors.specs.Internal.{SymbolsBelow};
+ghost use Rattle.decode_short_candidate.specs.Internal.{Rest, CandidateOf, CandidateOfBoth};
 
 use swar_lanes::{apart, votes_in};
 
-// The word minus the word of four coefficients, modulo q: the votes for the constant.
-fn rest(q: u64, x: u64, c0: u64, c1: u64, c2: u64, c3: u64) -> u64
-    requires { (is_alphabet q ≡ true) × LanesBelow q x × (c0 < q) × (c1 < q) × (c2 < q) × (c3 < q) }
-    ensures { Rest q x c0 c1 c2 c3 result }
+// The word minus the word of a message's first four coefficients, modulo q: the votes for the constant.
+fn rest(q: u64, x: u64, symbols: &[u64; 6]) -> u64
+    requires { (is_alphabet q ≡ true) × LanesBelow q x × SymbolsBelow q symbols.now }
+    ensures { Rest q x symbols.now result }
 {
-    swar_lanes::less(q, x, decode_short_errors::code(q, c0, c1, c2, c3))
+    swar_lanes::less(q, x, decode_short_errors::code(q, symbols))
 }
 
 // The symbol in the low bits of a number.
@@ -27,7 +28,8 @@ fn symbol(q: u64, x: u64) -> u64
     x & (q - 1)
 }
 
-// The symbol that two or more of three lanes have: those of the places 0, 2^i and 2^j.
+// The symbol that two or more of three lanes have: those of the places 0, 2^i and 2^j. This and the two below differ in more than a number:
+// each is another circuit over other lanes.
 fn three(q: u64, d: u64, i: u32, j: u32) -> u64
     requires { (is_alphabet q ≡ true) × (i < 4) × (j < 4) }
     ensures { Most q 2 (three_of d (2 ^ lane_bit i) (2 ^ lane_bit j)) result }
@@ -55,77 +57,48 @@ fn fifteen(q: u64, d: u64, e: u64, i: u32, j: u32, k: u32) -> u64
     )
 }
 
-// The constant and the coefficients of a message; the coefficients from m on are 0.
-#[derive(Clone, Copy)]
-pub struct Candidate {
-    pub constant: u64,
-    pub c0: u64,
-    pub c1: u64,
-    pub c2: u64,
-    pub c3: u64,
-    pub c4: u64,
-}
-
 // The candidate of a word of 4 places: one vote for each coefficient, and place 0 is the constant.
-pub fn candidate_4(q: u64, x: u64) -> Candidate
+fn candidate_4(q: u64, x: u64) -> [u64; 6]
     requires { (is_alphabet q ≡ true) × LanesBelow q x }
-    ensures { (result.c2 ≡ 0) × (result.c3 ≡ 0) × (result.c4 ≡ 0) × CandidateOf q 2 x (message_of result) }
+    ensures symbols { CandidateOf q 2 x result }
+    ensures zeros { drop 3 result ≡ replicate 3 0 }
 {
     let c0 = symbol(q, votes_in(q, 0, x));
     let c1 = symbol(q, votes_in(q, 1, x));
-    Candidate {
-        constant: symbol(q, x),
-        c0,
-        c1,
-        c2: 0,
-        c3: 0,
-        c4: 0,
-    }
+    [symbol(q, x), c0, c1, 0, 0, 0]
 }
 
 // The candidate of a word of 8 places: three of four votes for each coefficient, and three of eight for the constant.
-pub fn candidate_8(q: u64, x: u64) -> Candidate
+fn candidate_8(q: u64, x: u64) -> [u64; 6]
     requires { (is_alphabet q ≡ true) × LanesBelow q x }
-    ensures { (result.c3 ≡ 0) × (result.c4 ≡ 0) × CandidateOf q 3 x (message_of result) }
+    ensures symbols { CandidateOf q 3 x result }
+    ensures zeros { drop 4 result ≡ replicate 2 0 }
 {
     let c0 = three(q, votes_in(q, 0, x), 1, 2);
     let c1 = three(q, votes_in(q, 1, x), 0, 2);
     let c2 = three(q, votes_in(q, 2, x), 0, 1);
-    let left = rest(q, x, c0, c1, c2, 0);
-    Candidate {
-        constant: three(q, left, 0, 1),
-        c0,
-        c1,
-        c2,
-        c3: 0,
-        c4: 0,
-    }
+    let left = rest(q, x, &[0, c0, c1, c2, 0, 0]);
+    [three(q, left, 0, 1), c0, c1, c2, 0, 0]
 }
 
 // The candidate of a word of 16 places: seven of eight votes for each coefficient, and seven of sixteen for the constant.
-pub fn candidate_16(q: u64, x: u64) -> Candidate
+fn candidate_16(q: u64, x: u64) -> [u64; 6]
     requires { (is_alphabet q ≡ true) × LanesBelow q x }
-    ensures { (result.c4 ≡ 0) × CandidateOf q 4 x (message_of result) }
+    ensures symbols { CandidateOf q 4 x result }
+    ensures zeros { drop 5 result ≡ replicate 1 0 }
 {
     let c0 = seven(q, votes_in(q, 0, x), 1, 2, 3);
     let c1 = seven(q, votes_in(q, 1, x), 0, 2, 3);
     let c2 = seven(q, votes_in(q, 2, x), 0, 1, 3);
     let c3 = seven(q, votes_in(q, 3, x), 0, 1, 2);
-    let left = rest(q, x, c0, c1, c2, c3);
-    Candidate {
-        constant: seven(q, left, 0, 1, 2),
-        c0,
-        c1,
-        c2,
-        c3,
-        c4: 0,
-    }
+    let left = rest(q, x, &[0, c0, c1, c2, c3, 0]);
+    [seven(q, left, 0, 1, 2), c0, c1, c2, c3, 0]
 }
 
 // The candidate of a word of 32 places: fifteen of sixteen votes for each coefficient, and fifteen of the first sixteen for the constant.
-pub fn candidate_32(q: u64, x: u64, y: u64) -> Candidate
+fn candidate_32(q: u64, x: u64, y: u64) -> [u64; 6]
     requires { (is_alphabet q ≡ true) × LanesBelow q x × LanesBelow q y }
-    ensures { CandidateOfBoth q 5 x y (message_of result) }
+    ensures { CandidateOfBoth q 5 x y result }
 {
     let c0 = fifteen(q, votes_in(q, 0, x), votes_in(q, 0, y), 1, 2, 3);
     let c1 = fifteen(q, votes_in(q, 1, x), votes_in(q, 1, y), 0, 2, 3);
@@ -134,13 +107,22 @@ pub fn candidate_32(q: u64, x: u64, y: u64) -> Candidate
     // For the last coefficient, the partner of a place in x stands in the same lane of y.
     let d = swar_lanes::less(q, y, x);
     let c4 = fifteen(q, d, swar_lanes::partners(3, d), 0, 1, 2);
-    let left = rest(q, x, c0, c1, c2, c3);
-    Candidate {
-        constant: fifteen(q, left, swar_lanes::partners(3, left), 0, 1, 2),
-        c0,
-        c1,
-        c2,
-        c3,
-        c4,
+    let left = rest(q, x, &[0, c0, c1, c2, c3, 0]);
+    let a = fifteen(q, left, swar_lanes::partners(3, left), 0, 1, 2);
+    [a, c0, c1, c2, c3, c4]
+}
+
+// The candidate of a word of 2 ^ M places, where x holds the first sixteen and y the next: the symbols of a message of five coefficients,
+// those from M on 0. Each length has a body of its own, since it counts other lanes by another circuit.
+pub fn candidate<const M: u32>(q: u64, x: u64, y: u64) -> [u64; 6]
+    requires { (is_alphabet q ≡ true) × LanesBelow q x × LanesBelow q y × (2 ≤ M) × (M ≤ 5) }
+    ensures symbols { CandidateOfBoth q M x y result }
+    ensures zeros { drop (M + 1) result ≡ replicate (5 - M) 0 }
+{
+    match M {
+        2 => candidate_4(q, x),
+        3 => candidate_8(q, x),
+        4 => candidate_16(q, x),
+        _ => candidate_32(q, x, y),
     }
 }

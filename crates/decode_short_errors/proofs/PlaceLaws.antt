@@ -6,7 +6,8 @@ use native.Mathlib.Omega.{arith}
 use native.Mathlib.Nat.{mod-lt, mod-add-mod, mul-le-mul_left, mul-one, zero-add}
 use lib.Dec.{eqb}
 use lib.Bits.{bit_and}
-use Rattle.code_theory.specs.Sum.{every}
+use mathlib.Core.List.{List}
+use Rattle.code_theory.specs.Sum.{every, at}
 use Rattle.code_theory.specs.Index.{bit}
 use Rattle.code_theory.specs.Modular.{sub_mod}
 use Rattle.code_theory.specs.Question.{is_alphabet}
@@ -77,21 +78,21 @@ unfolding every digit bit offset
 marks_3 = marks_are 3 0x1010_1010_1010_1010 refl
 
 -- THE CODE is computed one coefficient after the other
-pub code_is : (q c0 c1 c2 c3 x0 x1 x2 x3 : ℕ)
-    → Lanes x0 (λ t. (digit 4 0 t + c0 * digit 4 0x1100_1100_1100_1100 t) % q)
-    → Lanes x1 (λ t. (digit 4 x0 t + c1 * digit 4 0x1111_0000_1111_0000 t) % q)
-    → Lanes x2 (λ t. (digit 4 x1 t + c2 * digit 4 0x1111_1111_0000_0000 t) % q)
-    → Lanes x3 (λ t. (digit 4 x2 t + c3 * digit 4 0x1010_1010_1010_1010 t) % q)
-    → Lanes x3 (λ t. plain q c0 c1 c2 c3 (offset t))
+pub code_is : (q : ℕ) (d : List ℕ) (x0 x1 x2 x3 : ℕ)
+    → Lanes x0 (λ t. (digit 4 0 t + at d 1 * digit 4 0x1100_1100_1100_1100 t) % q)
+    → Lanes x1 (λ t. (digit 4 x0 t + at d 2 * digit 4 0x1111_0000_1111_0000 t) % q)
+    → Lanes x2 (λ t. (digit 4 x1 t + at d 3 * digit 4 0x1111_1111_0000_0000 t) % q)
+    → Lanes x3 (λ t. (digit 4 x2 t + at d 4 * digit 4 0x1010_1010_1010_1010 t) % q)
+    → Lanes x3 (λ t. plain q d (offset t))
 unfolding plain
-code_is q c0 c1 c2 c3 x0 x1 x2 x3 e0 e1 e2 e3 t h =
-    e3 t h ∙ ap₂ (λ x y. (x + c3 * y) % q) (e2 t h) (marks_3 t h) ∙ mod-add-mod _ q _
-    ∙ ap₂ (λ x y. (x + c2 * y + c3 * bit 3 (offset t)) % q) (e1 t h) (marks_2 t h)
-    ∙ shift (digit 4 x0 t + c1 * digit 4 0x1111_0000_1111_0000 t) (c2 * bit 2 (offset t)) (c3 * bit 3 (offset t))
-    ∙ ap₂ (λ x y. (x + c1 * y + c2 * bit 2 (offset t) + c3 * bit 3 (offset t)) % q) (e0 t h) (marks_1 t h)
-    ∙ shift2 (digit 4 0 t + c0 * digit 4 0x1100_1100_1100_1100 t) (c1 * bit 1 (offset t)) (c2 * bit 2 (offset t)) (c3 * bit 3 (offset t))
-    ∙ ap₂ (λ x y. (x + c0 * y + c1 * bit 1 (offset t) + c2 * bit 2 (offset t) + c3 * bit 3 (offset t)) % q) (none_lanes t h) (marks_0 t h)
-    ∙ ap (λ x. (x + c1 * bit 1 (offset t) + c2 * bit 2 (offset t) + c3 * bit 3 (offset t)) % q) (zero-add (c0 * bit 0 (offset t)))
+code_is q d x0 x1 x2 x3 e0 e1 e2 e3 t h =
+    e3 t h ∙ ap₂ (λ x y. (x + at d 4 * y) % q) (e2 t h) (marks_3 t h) ∙ mod-add-mod _ q _
+    ∙ ap₂ (λ x y. (x + at d 3 * y + at d 4 * bit 3 (offset t)) % q) (e1 t h) (marks_2 t h)
+    ∙ shift (digit 4 x0 t + at d 2 * digit 4 0x1111_0000_1111_0000 t) (at d 3 * bit 2 (offset t)) (at d 4 * bit 3 (offset t))
+    ∙ ap₂ (λ x y. (x + at d 2 * y + at d 3 * bit 2 (offset t) + at d 4 * bit 3 (offset t)) % q) (e0 t h) (marks_1 t h)
+    ∙ shift2 (digit 4 0 t + at d 1 * digit 4 0x1100_1100_1100_1100 t) (at d 2 * bit 1 (offset t)) (at d 3 * bit 2 (offset t)) (at d 4 * bit 3 (offset t))
+    ∙ ap₂ (λ x y. (x + at d 1 * y + at d 2 * bit 1 (offset t) + at d 3 * bit 2 (offset t) + at d 4 * bit 3 (offset t)) % q) (none_lanes t h) (marks_0 t h)
+    ∙ ap (λ x. (x + at d 2 * bit 1 (offset t) + at d 3 * bit 2 (offset t) + at d 4 * bit 3 (offset t)) % q) (zero-add (at d 1 * bit 0 (offset t)))
   where
     shift : (a b c : ℕ) → (a % q + b + c) % q ≡ (a + b + c) % q
     shift a b c =
@@ -106,12 +107,12 @@ code_is q c0 c1 c2 c3 x0 x1 x2 x3 e0 e1 e2 e3 t h =
         ap (λ x. x % q) e ∙ mod-add-mod a q (b + c + d) ∙ ap (λ x. x % q) f
 
 -- the symbols of a code are below q
-plain_lt : (q c0 c1 c2 c3 i : ℕ) → 0 < q → plain q c0 c1 c2 c3 i < q
+plain_lt : (q : ℕ) (d : List ℕ) (i : ℕ) → 0 < q → plain q d i < q
 unfolding plain
-plain_lt q c0 c1 c2 c3 i h = mod-lt _ h
+plain_lt q d i h = mod-lt _ h
 
-pub plain_below : (q c0 c1 c2 c3 code : ℕ) → is_alphabet q ≡ true → Lanes code (λ t. plain q c0 c1 c2 c3 (offset t)) → LanesBelow q code
-plain_below q c0 c1 c2 c3 code al e t h = omega (arith, e t h, plain_lt q c0 c1 c2 c3 (offset t) (alphabet_positive q al))
+pub plain_below : (q : ℕ) (d : List ℕ) (code : ℕ) → is_alphabet q ≡ true → Lanes code (λ t. plain q d (offset t)) → LanesBelow q code
+plain_below q d code al e t h = omega (arith, e t h, plain_lt q d (offset t) (alphabet_positive q al))
 
 -- THE ERRORS are the word minus the code, minus the constant
 pub errors_are : (q x code a y r : ℕ) → is_alphabet q ≡ true → a < q

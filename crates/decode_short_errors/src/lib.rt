@@ -2,7 +2,8 @@
 // swar_lanes packs them.
 #![tactic(auto)]
 
-ghost use Rattle.std.specs.Prelude.{◌≡◌, true, ◌+◌, ◌*◌, ◌%◌, ◌<◌};
+ghost use Rattle.std.specs.Prelude.{◌≡◌, true, ℕ, ◌+◌, ◌*◌, ◌%◌, ◌<◌};
+ghost use Rattle.code_theory.specs.Sum.{at};
 ghost use Rattle.code_theory.specs.Modular.{sub_mod};
 ghost use Rattle.code_theory.specs.Question.{is_alphabet};
 ghost use Rattle.swar_theory.specs.Internal.{digit};
@@ -18,15 +19,15 @@ fn plus(q: u64, c: u64, a: u64, marks: u64) -> u64
     (c + a * marks) & ((q - 1) * 0x1111_1111_1111_1111)
 }
 
-// The word of four coefficients, with the constant 0.
-pub fn code(q: u64, c0: u64, c1: u64, c2: u64, c3: u64) -> u64
-    requires { (is_alphabet q ≡ true) × (c0 < q) × (c1 < q) × (c2 < q) × (c3 < q) }
-    ensures { Lanes result (λ t. plain q c0 c1 c2 c3 (offset t)) }
+// The word of the first four coefficients of a message, with the constant 0.
+pub fn code(q: u64, symbols: &[u64; 6]) -> u64
+    requires { (is_alphabet q ≡ true) × ((k : ℕ) → k < 4 → at symbols.now (k + 1) < q) }
+    ensures { Lanes result (λ t. plain q symbols.now (offset t)) }
 {
-    let x = plus(q, 0, c0, 0x1100_1100_1100_1100);
-    let x = plus(q, x, c1, 0x1111_0000_1111_0000);
-    let x = plus(q, x, c2, 0x1111_1111_0000_0000);
-    plus(q, x, c3, 0x1010_1010_1010_1010)
+    let x = plus(q, 0, symbols[1], 0x1100_1100_1100_1100);
+    let x = plus(q, x, symbols[2], 0x1111_0000_1111_0000);
+    let x = plus(q, x, symbols[3], 0x1111_1111_0000_0000);
+    plus(q, x, symbols[4], 0x1010_1010_1010_1010)
 }
 
 // The word minus the code minus the constant, modulo q: 0 in every place that is as it was sent.

@@ -1,18 +1,19 @@
 -- Leads are equal where the votes are, and the least of them. Assumes nothing.
-use Prim.Native.Nat.{ℕ, ◌*◌, ◌-◌, ◌≤◌, ◌<◌, min}
-use mathlib.Core.Path.{◌≡◌, ap₂, sym, ◌∙◌}
+use Prim.Native.Nat.{ℕ, ◌*◌, ◌-◌, ◌^◌, ◌≤◌, ◌<◌, min}
+use mathlib.Core.Path.{◌≡◌, refl, ap, ap₂, sym, ◌∙◌}
 use mathlib.Core.Bool.{true}
 use native.Mathlib.Omega.{arith}
 use Rattle.code_theory.specs.Vote.{votes}
 use Rattle.code_theory.specs.Margin.{lead, least}
 use Rattle.code_theory.specs.Question.{is_alphabet}
 use Rattle.code_theory.proofs.QuestionLaws.{alphabet_positive}
-use Rattle.code_theory.proofs.MarginLaws.{least_ext}
+use Rattle.code_theory.proofs.MarginLaws.{least_ext, lead_ext}
+use Rattle.code_theory.proofs.VoteLaws.{votes_ext}
 use Rattle.code_theory.proofs.ErrorLaws.{sum_from1_ext, max_from1_ext, lead_zero}
 use Rattle.code_theory.specs.Internal.{sum_from1, max_from1}
 use Rattle.code_theory.proofs.WordLaws.{bounds}
 use Rattle.swar_lanes.specs.Internal.{LanesBelow, place_of, places_of}
-use Rattle.swar_lanes.proofs.LaneLaws.{none_below}
+use Rattle.swar_lanes.proofs.LaneLaws.{none_below, first_places}
 use Rattle.swar_count.specs.Internal.{lanes_equal}
 use Rattle.decode_short_margin.specs.Internal.{both_votes, lead_by, Errors}
 use Rattle.decode_short_margin.proofs.LaneLaws.{both_none, votes_both}
@@ -82,3 +83,29 @@ margin_32_is q f h a b r al ea eb e = e ∙ ap₂ min (ea ∙ four) (eb ∙ sym 
         least_ext 3 (λ k. lead_by q 16 (both_votes q k f h)) (λ k. lead q 0 (votes q 5 k (places_of f h)))
         (λ k l. lead_by_ext q 16 (both_votes q k f h) (votes q 5 k (places_of f h)) (λ v _. sym (votes_both q k f h l v))
         ∙ sym (lead_zero q 5 k (places_of f h) (alphabet_positive q al) (omega arith)))
+
+-- EITHER LENGTH: the places of a word of 16 stand in f, whatever h is
+module _ (q f h : ℕ) where
+  first_votes : (k v : ℕ) → k < 4 → votes q 4 k (places_of f h) v ≡ votes q 4 k (place_of f) v
+  first_votes k v l = votes_ext q 4 k (places_of f h) (place_of f) l (λ i j. first_places f h i j) v
+
+  pub few_first : (m : ℕ) → m ≡ 4 → ((k : ℕ) → k < m → 4 * sum_from1 (q - 1) (votes q m k (places_of f h)) < 2 ^ m) → (k : ℕ) → k < 4 → sum_from1 (q - 1) (votes q 4 k (place_of f)) < 4
+  few_first m e l k i =
+      omega (
+        arith,
+        ap (λ z. sum_from1 (q - 1) (votes q z k (places_of f h))) e,
+        ap (λ z. 2 ^ z) e,
+        l k (omega (arith, e, i)),
+        sum_from1_ext (q - 1) (votes q 4 k (places_of f h)) (votes q 4 k (place_of f)) (λ v _. first_votes k v i),
+      )
+
+  pub few_both : (m : ℕ) → m ≡ 5 → ((k : ℕ) → k < m → 4 * sum_from1 (q - 1) (votes q m k (places_of f h)) < 2 ^ m) → (k : ℕ) → k < 5 → sum_from1 (q - 1) (votes q 5 k (places_of f h)) < 8
+  few_both m e l k i = omega (arith, ap (λ z. sum_from1 (q - 1) (votes q z k (places_of f h))) e, ap (λ z. 2 ^ z) e, l k (omega (arith, e, i)))
+
+  pub least_first_is : (m r : ℕ) → m ≡ 4 → r ≡ least 3 (λ k. lead q 0 (votes q 4 k (place_of f))) → r ≡ least (m - 1) (λ k. lead q 0 (votes q m k (places_of f h)))
+  least_first_is m r e g =
+      rw e (g ∙ least_ext 3 (λ k. lead q 0 (votes q 4 k (place_of f))) (λ k. lead q 0 (votes q 4 k (places_of f h)))
+      (λ k l. lead_ext q 0 0 (votes q 4 k (place_of f)) (votes q 4 k (places_of f h)) refl (λ v. sym (first_votes k v (omega arith)))))
+
+  pub least_both_is : (m r : ℕ) → m ≡ 5 → r ≡ least 4 (λ k. lead q 0 (votes q 5 k (places_of f h))) → r ≡ least (m - 1) (λ k. lead q 0 (votes q m k (places_of f h)))
+  least_both_is m r e g = rw e g

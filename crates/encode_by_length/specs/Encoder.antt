@@ -10,8 +10,7 @@ encode_refusal q m message word =
     (ask (is_variables m) 2
     (ask (is_message_size m message) 5
     (ask (all_below q message) 6
-    (ask (is_word_size m word) 7
-    0))))
+    (ask (is_word_size m word) 7 0))))
 
 -- the word slice after Write
 unfoldable pub encode_word : ℕ → ℕ → List ℕ → List ℕ → List ℕ

@@ -1,5 +1,5 @@
 -- A message and a buffer for its word, and the steps by which the word is written.
-use Rattle.std.specs.Prelude.{ℕ, suc, ◌^◌, ◌+◌, ◌≤◌, ◌<◌, ◌%◌, ◌≡◌, List, length, true}
+use Rattle.std.specs.Prelude.{ℕ, suc, ◌^◌, ◌+◌, ◌*◌, ◌≤◌, ◌<◌, ◌%◌, ◌≡◌, List, length, true}
 use Rattle.code_theory.specs.Sum.{at}
 use Rattle.code_theory.specs.Code.{linear, symbol_at, Below}
 use Rattle.code_theory.specs.Question.{is_alphabet}
@@ -32,9 +32,9 @@ pub record Small (n : ℕ) (s : List ℕ) : Type 0 where
 unfoldable pub unreduced : ℕ → (ℕ → ℕ) → ℕ → ℕ
 unreduced m s i = s 0 + linear m (λ k. s (suc k)) i
 
--- v is w with its first i symbols, each plus a modulo q, in the places from len on, and the others kept
-pub record Doubled (q len a : ℕ) (w v : List ℕ) (i : ℕ) : Type 0 where
+-- v is w with its first len symbols, each plus a modulo q, in the places from len on, and the others kept
+pub record Doubled (q len a : ℕ) (w v : List ℕ) : Type 0 where
   pub size : length v ≡ length w
   pub low : (j : ℕ) → j < len → at v j ≡ at w j
-  pub high : (j : ℕ) → j < i → at v (j + len) ≡ (at w j + a) % q
-  pub rest : (j : ℕ) → i + len ≤ j → at v j ≡ at w j
+  pub high : (j : ℕ) → j < len → at v (j + len) ≡ (at w j + a) % q
+  pub rest : (j : ℕ) → 2 * len ≤ j → at v j ≡ at w j

@@ -2,18 +2,20 @@
 // places it was wrong, or the number of the refusal.
 #![tactic(auto)]
 
-use codec::Decoded;
+use code_questions::Refusal;
 use std::io;
 
-fn main(rt: HostRuntime) -> io::Result<()> {
+// In how many places the damaged word is wrong.
+fn wrong_places() -> Result<u32, Refusal> {
     let message = [1u8, 1, 3, 0, 2];
     let mut word = [0u8; 16];
-    codec::encode(4, 4, &message, &mut word);
+    codec::encode(4, 4, &message, &mut word)?;
     word[2] = 1;
     let mut read = [0u8; 5];
-    let answer = match codec::decode(4, 4, &mut read, &word) {
-        Decoded::Read(reading) => reading.wrong,
-        Decoded::Refused(number) => number,
-    };
+    Ok(codec::decode(4, 4, &mut read, &word)?.wrong)
+}
+
+fn main(rt: HostRuntime) -> io::Result<()> {
+    let answer = wrong_places().unwrap_or_else(u32::from);
     print!(rt; "{answer}")
 }

@@ -1,10 +1,8 @@
 -- The twelve worked examples of docs/REQUIREMENTS.md that are marked P, as they follow each other there.
-use Rattle.std.specs.Prelude.{ℕ, List, [], ◌∷◌, ℤ, pos, negsuc}
+use Rattle.std.specs.Prelude.{ℕ, List, [], ◌∷◌, Option, Some, None, ℤ, pos, negsuc}
 use Rattle.code_theory.specs.Question.{accepted, refused}
 use Rattle.session_sender.specs.declared.Sender.{Sender}
 use Rattle.session_receiver.specs.declared.Receiver.{Receiver}
-use Rattle.session_reference.specs.declared.Reference.{Reference}
-use Rattle.session_reference.specs.declared.Reference.TheVariants.{Held, Missing}
 use Rattle.soft_theory.specs.Complex.{Complex}
 use Rattle.soft_theory.specs.Decision.{sure, unsure}
 use Rattle.example_theory.specs.Case.{Case, writes, reads, doubtful, gathers, packs, decides, sends, receives, misses, both}
@@ -23,7 +21,7 @@ received = 1 ∷ 2 ∷ 1 ∷ 1 ∷ 1 ∷ 2 ∷ 0 ∷ 1 ∷ 3 ∷ 0 ∷ 2 ∷ 3 �
 abbrev pub sender : ℕ → ℕ → Sender
 sender last used = record { q = 4; m = 4; last = last; used = used }
 
-abbrev pub receiver : Reference → ℕ → Receiver
+abbrev pub receiver : Option ℕ → ℕ → Receiver
 receiver reference used = record { q = 4; m = 4; reference = reference; used = used }
 
 -- the two sums of a soft vote
@@ -49,6 +47,6 @@ examples =
     ∷ both
     (both (sends (sender 1 65536) (sender 1 65536) message (refused 4)) (sends (sender 1 65535) (sender 2 65536) message (accepted [])))
     (both
-    (both (receives (receiver (Held 1) 65536) (receiver (Held 1) 65536) word (refused 4)) (receives (receiver (Held 1) 65535) (receiver (Held 1) 65536) word (accepted (0 ∷ 0 ∷ 8 ∷ 67107840 ∷ []))))
-    (both (misses (receiver (Held 1) 65536) (receiver (Held 1) 65536) (refused 4)) (misses (receiver (Held 1) 65535) (receiver Missing 65536) (accepted []))))
+    (both (receives (receiver (Some 1) 65536) (receiver (Some 1) 65536) word (refused 4)) (receives (receiver (Some 1) 65535) (receiver (Some 1) 65536) word (accepted (0 ∷ 0 ∷ 8 ∷ 67107840 ∷ []))))
+    (both (misses (receiver (Some 1) 65536) (receiver (Some 1) 65536) (refused 4)) (misses (receiver (Some 1) 65535) (receiver None 65536) (accepted []))))
     ∷ []

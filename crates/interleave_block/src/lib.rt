@@ -8,7 +8,9 @@ ghost use Rattle.interleave_theory.specs.Place.{transposed};
 ghost use Rattle.interleave_theory.specs.Internal.{Transposes};
 ghost use Rattle.interleave_block.specs.Internal.{Copied, RowsCopied, Done};
 
-// The n symbols from place i on, copied to place j on.
+// The n symbols from place i on, copied to place j on. With copy_from_slice, which the compiler leaves as a call, two and four words of
+// sixteen places take three times as many instructions and sixteen words of 256 places almost twice as many, which misses the bar of
+// docs/BENCHMARKS.md.
 fn copy(n: usize, from: &[u8], i: usize, to: &mut [u8], j: usize)
     requires { (i + n ≤ length from.now) × (j + n ≤ length to.old) }
     ensures { Copied n from.now i to.old to.new j }
@@ -18,7 +20,8 @@ fn copy(n: usize, from: &[u8], i: usize, to: &mut [u8], j: usize)
     }
 }
 
-// Sixteen rows of sixteen symbols, one every a places from i on, copied to one every b places from j on.
+// Sixteen rows of sixteen symbols, one every a places from i on, copied to one every b places from j on. Over chunks of a and of b places
+// it is no plainer: the last row of each may be followed by fewer places.
 fn copy_rows(from: &[u8], i: usize, a: usize, to: &mut [u8], j: usize, b: usize)
     requires { (i + 15 * a + 16 ≤ length from.now) × (j + 15 * b + 16 ≤ length to.old) × (16 ≤ b) }
     ensures { RowsCopied 16 from.now i a to.old to.new j b }
@@ -40,7 +43,7 @@ fn reshuffle(half: usize, apart: &mut [u8], row: &mut [u8])
     interleave_shuffle::shuffle(128, apart, row);
 }
 
-// A group of 2 * half symbols shuffled so many times, which transposes 2^times rows.
+// A group of 2 * half symbols shuffled so many times, which transposes 2^times rows. The loop repeats, and goes over nothing.
 pub fn shuffle_times(half: usize, times: u32, from: &[u8], to: &mut [u8])
     requires { (half ≤ 128) × (length from.now ≡ 2 * half) × (length to.old ≡ 2 * half) × (2 * half % 2 ^ times ≡ 0) }
     ensures { to.new ≡ transposed (2 ^ times) (2 * half / 2 ^ times) from.now }
@@ -81,7 +84,7 @@ fn block(n: usize, k: usize, from: &[u8], to: &mut [u8])
     copy(256, &columns, 0, to, 256 * k);
 }
 
-// And put back.
+// And put back. The rows are taken apart in the target here and in the source above, so that the two share no more than the shuffles.
 fn block_back(n: usize, k: usize, from: &[u8], to: &mut [u8])
     requires { (length from.now ≡ n * 16) × (16 * k + 16 ≤ n) × Done n 16 0 (16 * k) from.now to.old }
     ensures { Done n 16 0 (16 * k + 16) from.now to.new }
@@ -94,7 +97,8 @@ fn block_back(n: usize, k: usize, from: &[u8], to: &mut [u8])
     copy_rows(&columns, 0, 16, to, 16 * k, n);
 }
 
-// Sixteen words of n places rearranged, where n is a multiple of sixteen.
+// Sixteen words of n places rearranged, where n is a multiple of sixteen. Here and in the way back k is the number of a block, which does
+// not lie in one piece on both sides.
 pub fn blocks(n: usize, from: &[u8], to: &mut [u8])
     requires { (length from.now ≡ 16 * n) × (length to.old ≡ 16 * n) × (n % 16 ≡ 0) }
     ensures { to.new ≡ transposed 16 n from.now }

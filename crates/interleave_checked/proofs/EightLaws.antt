@@ -4,12 +4,15 @@ use Prim.Native.Nat.{ℕ, ◌+◌, ◌*◌, ◌-◌, ◌/◌, ◌%◌, ◌^◌, 
 use mathlib.Core.Path.{◌≡◌, refl, ap, sym, ◌∙◌, subst, subst₂}
 use mathlib.Core.Logic.{inl, inr}
 use mathlib.Core.Bool.{Bool, true, false, true≢false}
-use mathlib.Core.List.{List}
-use native.Mathlib.Nat.{zero-add}
+use mathlib.Core.List.{List, ◌++◌}
+use native.Mathlib.Nat.{zero-add, mul_comm}
+use Rattle.std.proofs.lemmas.Nat.{mod-mul-add}
 use native.Mathlib.Omega.{arith}
 use borrow.Author.Count.{below_more}
 use lib.Bits.{bit_and, bit_or, and_le_l, and_le_r, or_lt, or_add_and, or_shr, or_mod}
 use lib.Dec.{eqb}
+use lib.ListN.{length, drop}
+use Rattle.std.proofs.lemmas.List.{drop_at, drop-drop, length-append, length-drop, get_or_append_left, get_or-drop}
 use lib.Pow.{pow_pos}
 use Rattle.code_theory.specs.Sum.{at, tabulate}
 use Rattle.code_theory.specs.Question.{is_alphabet}
@@ -100,21 +103,46 @@ module _ (q n i m all y : ℕ) (s : List ℕ) (a : is_alphabet q ≡ true) (end 
         bytes_tell.all (λ l h. omega (arith, byte l h, below_alphabet q s i m all g symbols (alphabet q a) l h));
   }
 
--- parts of 512 symbols, asked about one after the other: none yet; one more, all below q; and one with a symbol that is not
-pub parts_none : (q : ℕ) (s : List ℕ) → Tells true q (512 * 0) s 0
+-- the parts of k symbols of s, one after the other: after n parts, rest is what is left, and the next part is x
+module _ (k n : ℕ) (s rest x next : List ℕ) (left : rest ≡ drop (k * n) s) (within : k * n ≤ length s) (parts : rest ≡ x ++ next) (size : length x ≡ k) where
+  pub part_rest : next ≡ drop (k * (n + 1)) s
+  part_rest = sym (drop_at x next k size) ∙ ap (drop k) (sym parts ∙ left) ∙ drop-drop k (k * n) s ∙ ap (λ i. drop i s) (omega arith)
+
+  pub part_within : k * (n + 1) ≤ length s
+  part_within = omega (arith, within, size, ap length left, ap length parts, length-append x next, length-drop (k * n) s)
+
+  pub part_at : (l : ℕ) → l < k → at x l ≡ at s (k * n + l)
+  part_at l h = sym (get_or_append_left x next 0 l (omega (arith, h, size))) ∙ ap (λ y. at y l) (sym parts ∙ left) ∙ get_or-drop (k * n) s l 0
+
+  -- what is told of the part, of these places of s
+  pub part_tells : (r : Bool) (q : ℕ) → Tells r q (length x) x 0 → Tells r q k s (k * n)
+  part_tells r q t = record {
+    yes = λ e l h. subst (λ i. i < q) (place l h) (t.yes e l (omega (arith, h, size)));
+    all = λ f. t.all (λ l h. subst (λ i. i < q) (sym (place l (omega (arith, h, size)))) (f l (omega (arith, h, size))));
+  }
+    where
+      place : (l : ℕ) → l < k → at x (0 + l) ≡ at s (k * n + l)
+      place l h = ap (at x) (zero-add l) ∙ part_at l h
+
+-- where no part is left, all symbols are in one
+pub parts_end : (k n : ℕ) (s rest : List ℕ) → rest ≡ drop (k * n) s → k * n ≤ length s → length rest < k → length s % k ≡ 0 → k * n ≡ length s
+parts_end k n s rest left within few whole =
+    let r : ℕ = length s - k * n in
+    let small : r < k = omega (arith, few, ap length left, length-drop (k * n) s) in
+    let e : n * k + r ≡ length s = omega (arith, within, mul_comm n k) in
+    omega (arith, within, sym (mod-mul-add n k r small) ∙ ap (λ i. i % k) e ∙ whole)
+
+-- parts asked about one after the other: none yet; one more, all below q; and one with a symbol that is not
+pub parts_none : (q : ℕ) (s : List ℕ) → Tells true q 0 s 0
 parts_none q s = record { yes = λ e l h. absurd (omega (arith, h)); all = λ f. refl }
 
-pub parts_next : (q k : ℕ) (s : List ℕ) (r : Bool) → r ≡ true → Tells true q (512 * k) s 0 → Tells r q 512 s (512 * k) → Tells true q (512 * (k + 1)) s 0
-parts_next q k s r e before part =
-    subst (λ n. Tells true q n s 0) (omega arith)
-    (tells_join true true q (512 * k) 512 s 0 before (subst₂ (λ b i. Tells b q 512 s i) e (sym (zero-add (512 * k))) part))
+pub parts_next : (q k n : ℕ) (s : List ℕ) (r : Bool) → r ≡ true → Tells true q (k * n) s 0 → Tells r q k s (k * n) → Tells true q (k * (n + 1)) s 0
+parts_next q k n s r e before part =
+    subst (λ i. Tells true q i s 0) (omega arith)
+    (tells_join true true q (k * n) k s 0 before (subst₂ (λ b i. Tells b q k s i) e (sym (zero-add (k * n))) part))
 
-pub parts_no : (q n k : ℕ) (s : List ℕ) (r : Bool) → k < n → r ≡ false → Tells r q 512 s (512 * k) → Tells false q (512 * n) s 0
-parts_no q n k s r h e part = record {
+pub parts_no : (q k n : ℕ) (s : List ℕ) (r : Bool) → k * (n + 1) ≤ length s → r ≡ false → Tells r q k s (k * n) → Tells false q (length s) s 0
+parts_no q k n s r h e part = record {
   yes = λ z. absurd (true≢false (sym z));
-  all = λ f. sym e ∙ part.all (λ l j. subst (λ i. at s i < q) (zero-add (512 * k + l)) (f (512 * k + l) (omega (arith, h, j))));
+  all = λ f. sym e ∙ part.all (λ l j. subst (λ i. at s i < q) (zero-add (k * n + l)) (f (k * n + l) (omega (arith, h, j))));
 }
-
--- all parts asked about
-pub parts_all : (q n k : ℕ) (s : List ℕ) → k ≡ n → Tells true q (512 * k) s 0 → Tells true q (512 * n) s 0
-parts_all q n k s e t = subst (λ i. Tells true q (512 * i) s 0) e t

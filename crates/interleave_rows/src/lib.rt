@@ -1,4 +1,6 @@
-// Rows of symbols transposed symbol by symbol: a rows of b symbols, of any number and length.
+// Rows of symbols transposed symbol by symbol: a rows of b symbols, of any number and length. The loops count rows and columns, since a
+// symbol's place in either slice is worked out from both: over chunks, only one of the two places would go without. `row` and `column` walk
+// different slices in order, so what each has done so far is another fact (`Filled`, `Scattered`), and one text for both would be two.
 #![tactic(auto)]
 
 ghost use Rattle.std.specs.Prelude.{◌≡◌, ◌+◌, ◌*◌, ◌<◌, length};

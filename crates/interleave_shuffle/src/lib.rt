@@ -5,7 +5,8 @@
 ghost use Rattle.std.specs.Prelude.{◌≡◌, ◌*◌, ◌≤◌, length};
 ghost use Rattle.interleave_theory.specs.Internal.{Transposes};
 
-// The symbols of the two halves of `from` in turn. Nothing is promised of the places of `to` behind these.
+// The symbols of the two halves of `from` in turn. Nothing is promised of the places of `to` behind these. The index counts pairs: chunks
+// of two places zipped with both halves are no plainer, since each pair is then named place by place all the same.
 pub fn shuffle(half: usize, from: &[u8], to: &mut [u8])
     requires { (2 * half ≤ length from.now) × (2 * half ≤ length to.old) }
     ensures places { Transposes 2 half from.now to.new }

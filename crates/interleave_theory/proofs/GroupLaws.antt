@@ -1,20 +1,19 @@
 -- What the questions about a group say, and what both calls leave. Assumes nothing.
 use Prim.Native.Nat.{ℕ, ◌*◌, ◌^◌, ◌≤◌}
-use mathlib.Core.Path.{◌≡◌, refl, ap, ap₂, sym, subst, subst₂, ◌∙◌}
-use mathlib.Core.Logic.{◌≢◌}
+use mathlib.Core.Path.{◌≡◌, refl, ap, ap₂, sym, ◌∙◌}
 use mathlib.Core.Bool.{true, ◌&&◌}
-use mathlib.Core.List.{List, []}
+use mathlib.Core.List.{List}
 use native.Mathlib.Nat.{mul_comm, mul-le-mul_right}
 use native.Mathlib.Omega.{arith}
 use lib.Dec.{leb}
 use lib.Pow.{pow_mono}
 use lib.ListN.{length}
 use borrow.Author.Tests.{le-leb, leb-true, eqb-true}
-use Rattle.code_theory.specs.Question.{is_alphabet, is_variables, all_below, after, accepted, refused}
-use Rattle.code_theory.proofs.QuestionLaws.{and_true, ask_yes, answer_yes, answer_no, after_yes, after_no, variables_bounds}
-use Rattle.interleave_theory.specs.Place.{rearranged, put_back}
-use Rattle.interleave_theory.specs.Group.{is_group, is_group_size, group_refusal, group_answer, rearrange_target, put_back_target}
-use Rattle.interleave_theory.specs.Internal.{slices_refusal, Checked}
+use Rattle.code_theory.specs.Question.{is_alphabet, is_variables, all_below, after}
+use Rattle.code_theory.proofs.QuestionLaws.{and_true, ask_yes, after_yes, variables_bounds}
+use Rattle.interleave_theory.specs.Place.{transposed, rearranged, put_back}
+use Rattle.interleave_theory.specs.Group.{is_group, is_group_size, group_refusal, rearrange_target, put_back_target}
+use Rattle.interleave_theory.specs.Internal.{slices_refusal, moved_target, Checked}
 use Rattle.interleave_theory.proofs.RefusalLaws.{slices_asked, refused_none}
 use Rattle.interleave_theory.proofs.PlaceLaws.{transposed_length, transposed_below, rearranged_undone, put_back_undone}
 
@@ -66,26 +65,17 @@ not_refused q m count source target g =
     sym (slices_asked q m count source target g.alphabet g.variables g.group)
     ∙ sym (refused_none q (count * 2 ^ m) source target g.source g.target g.below)
 
--- what the two calls answer and leave
+-- what the two calls leave
 module _ (q m count : ℕ) (source target : List ℕ) where
-  module _ (number : ℕ) (e : number ≡ group_refusal q m count source target) (n : number ≢ 0) where
-    pub group_refused : refused number ≡ group_answer q m count source target
-    unfolding group_answer
-    group_refused = ap refused e ∙ sym (answer_no _ [] (λ z. n (e ∙ z)))
+  pub rearrange_moves : moved_target count (2 ^ m) q m count source target ≡ rearrange_target q m count source target
+  unfolding moved_target rearrange_target
+  rearrange_moves = refl
 
-    pub rearrange_kept : target ≡ rearrange_target q m count source target
-    unfolding rearrange_target
-    rearrange_kept = sym (after_no _ _ target (λ z. n (e ∙ z)))
-
-    pub put_back_kept : target ≡ put_back_target q m count source target
-    unfolding put_back_target
-    put_back_kept = sym (after_no _ _ target (λ z. n (e ∙ z)))
+  pub put_back_moves : moved_target (2 ^ m) count q m count source target ≡ put_back_target q m count source target
+  unfolding moved_target put_back_target
+  put_back_moves = refl
 
   module _ (z : group_refusal q m count source target ≡ 0) where
-    pub group_accepted : accepted [] ≡ group_answer q m count source target
-    unfolding group_answer
-    group_accepted = sym (answer_yes _ [] z)
-
     pub rearrange_is : rearrange_target q m count source target ≡ rearranged count (2 ^ m) source
     unfolding rearrange_target
     rearrange_is = after_yes _ _ target z
@@ -95,31 +85,12 @@ module _ (q m count : ℕ) (source target : List ℕ) where
     put_back_is = after_yes _ _ target z
 
 -- what a way of moving a group answers and leaves is what the call does
-module _ (q m count : ℕ) (source target : List ℕ) (a : is_alphabet q ≡ true) (v : is_variables m ≡ true) (g : is_group count ≡ true) (k : ℕ) (y : List ℕ) where
-  pub rearrange_checked : Checked q count (2 ^ m) source target k y → (k ≡ group_refusal q m count source target) × (y ≡ rearrange_target q m count source target)
-  unfolding rearrange_target
-  rearrange_checked c =
-      let e = c.number ∙ slices_asked q m count source target a v g in
-      (e, c.target ∙ ap (λ n. after n (rearranged count (2 ^ m) source) target) e)
-
-  pub put_back_checked : Checked q (2 ^ m) count source target k y → (k ≡ group_refusal q m count source target) × (y ≡ put_back_target q m count source target)
-  unfolding put_back_target
-  put_back_checked c =
-      let e = c.number ∙ ap (λ n. slices_refusal q n source target) (mul_comm (2 ^ m) count) ∙ slices_asked q m count source target a v g in
-      (e, c.target ∙ ap (λ n. after n (put_back count (2 ^ m) source) target) e)
-
--- the same where m is written otherwise
-pub rearrange_as : (q m m' count : ℕ) (x t : List ℕ) (k : ℕ) (y : List ℕ) → m ≡ m' → (k ≡ group_refusal q m count x t) × (y ≡ rearrange_target q m count x t)
-    → (k ≡ group_refusal q m' count x t) × (y ≡ rearrange_target q m' count x t)
-rearrange_as q m m' count x t k y e h = subst (λ n. (k ≡ group_refusal q n count x t) × (y ≡ rearrange_target q n count x t)) e h
-
-pub put_back_as : (q m m' count : ℕ) (x t : List ℕ) (k : ℕ) (y : List ℕ) → m ≡ m' → (k ≡ group_refusal q m count x t) × (y ≡ put_back_target q m count x t)
-    → (k ≡ group_refusal q m' count x t) × (y ≡ put_back_target q m' count x t)
-put_back_as q m m' count x t k y e h = subst (λ n. (k ≡ group_refusal q n count x t) × (y ≡ put_back_target q n count x t)) e h
-
--- and where the two numbers of a way are
-pub checked_as : (q a a' b b' : ℕ) (x t : List ℕ) (k : ℕ) (y : List ℕ) → a ≡ a' → b ≡ b' → Checked q a b x t k y → Checked q a' b' x t k y
-checked_as q a a' b b' x t k y e f c = subst₂ (λ i j. Checked q i j x t k y) e f c
+pub moved_checked : (q m count a b : ℕ) (source target : List ℕ) → is_alphabet q ≡ true → is_variables m ≡ true → is_group count ≡ true → a * b ≡ count * 2 ^ m
+    → (k : ℕ) (y : List ℕ) → Checked q a b source target k y → (k ≡ group_refusal q m count source target) × (y ≡ moved_target a b q m count source target)
+unfolding moved_target
+moved_checked q m count a b source target alphabet variables group size k y c =
+    let e = c.number ∙ ap (λ n. slices_refusal q n source target) size ∙ slices_asked q m count source target alphabet variables group in
+    (e, c.target ∙ ap (λ n. after n (transposed a b source) target) e)
 
 -- PUT BACK UNDOES REARRANGE: a call of Put back with what an accepted Rearrange left is accepted, and leaves the first source
 pub put_back_undoes : (q m count : ℕ) (x t u : List ℕ) → group_refusal q m count x t ≡ 0 → length u ≡ count * 2 ^ m

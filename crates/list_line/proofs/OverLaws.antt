@@ -12,7 +12,7 @@ use Rattle.code_theory.specs.Question.{ask, is_alphabet, is_variables, is_messag
 use Rattle.code_theory.proofs.QuestionLaws.{below_all}
 use Rattle.session_slot.specs.Slot.{slots, slot_time}
 use Rattle.session_receiver.specs.Receiving.{is_below, is_missing, sound_receiver, receive_refusal, receive_constant, receive_session, after_receive, next_receiver, miss_refusal, miss_session}
-use Rattle.session_reference.specs.declared.Reference.TheVariants.{Held, Missing}
+use Rattle.std.proofs.Common.{Some, None}
 use Rattle.session_receiver.specs.declared.Receiver.{Receiver}
 use Rattle.session_receiver.proofs.SoundLaws.{receive_yes, receive_doubtful, miss_yes, constant_below, receiver_next}
 use Rattle.text_lines.specs.Line.{Line, slot, miss, bad, is_slot, word_of}
@@ -30,16 +30,16 @@ unfolding line_session receive_session miss_session after_receive after is_below
 sound_line s (slot w) e = by (eqb (receive_refusal s blank w) 9) refl (receive_refusal s blank w) refl
   where
     by : (t : Bool) → eqb (receive_refusal s blank w) 9 ≡ t → (n : ℕ) → receive_refusal s blank w ≡ n
-        → sound_receiver (cond t (next_receiver s Missing) (after n (next_receiver s (Held (receive_constant s.q s.m w))) s)) ≡ true
-    by true f n g = receiver_next s Missing (receive_doubtful s blank w (eqb-true _ 9 f)).0 refl
+        → sound_receiver (cond t (next_receiver s None) (after n (next_receiver s (Some (receive_constant s.q s.m w))) s)) ≡ true
+    by true f n g = receiver_next s None (receive_doubtful s blank w (eqb-true _ 9 f)).0 refl
     by false f zero g =
         let y = receive_yes s blank w g in
-        receiver_next s (Held (receive_constant s.q s.m w)) y.0 (lt-ltb _ _ (constant_below s.q s.m w y.1))
+        receiver_next s (Some (receive_constant s.q s.m w)) y.0 (lt-ltb _ _ (constant_below s.q s.m w y.1))
     by false f (suc n) g = e
 sound_line s miss e = by (miss_refusal s) refl
   where
-    by : (n : ℕ) → miss_refusal s ≡ n → sound_receiver (after n (next_receiver s Missing) s) ≡ true
-    by zero g = receiver_next s Missing (miss_yes s g) refl
+    by : (n : ℕ) → miss_refusal s ≡ n → sound_receiver (after n (next_receiver s None) s) ≡ true
+    by zero g = receiver_next s None (miss_yes s g) refl
     by (suc n) g = e
 sound_line s bad e = subst (λ r. sound_receiver r ≡ true) (told_bad s).session e
 

@@ -3,7 +3,7 @@ use Prim.Native.Nat.{ℕ, suc, ◌+◌, ◌<◌}
 use mathlib.Core.Path.{◌≡◌, refl, ap, ap₂, sym, subst, ◌∙◌}
 use mathlib.Core.Logic.{◌≢◌}
 use mathlib.Core.Bool.{Bool, true, false}
-use mathlib.Core.List.{List}
+use mathlib.Core.List.{List, []}
 use native.Mathlib.Nat.{mod-lt}
 use native.Mathlib.Omega.{arith}
 use lib.ListN.{length}
@@ -18,15 +18,14 @@ use Rattle.code_theory.proofs.QuestionLaws.{message_yes, below_all, after_yes, a
 use Rattle.strap.specs.Strap.{rate_of, unpack_refusal}
 use Rattle.text_buffer.specs.Text.{put}
 use Rattle.text_buffer.proofs.PutLaws.{Written, written_as}
-use Rattle.session_receiver.specs.Receiving.{receive_refusal, receive_constant, zone_from, zone_symbol, receive_delivery, delivery_values, receive_answer, receive_message, receive_session, next_receiver, received, received_session, miss_refusal, miss_answer, miss_session, missed, missed_session}
-use Rattle.session_reference.specs.declared.Reference.{Reference}
-use Rattle.session_reference.specs.declared.Reference.TheVariants.{Held, Missing}
+use Rattle.session_receiver.specs.Receiving.{receive_refusal, receive_constant, zone_from, zone_symbol, receive_delivery, delivery_values, receive_answer, receive_message, receive_session, next_receiver, received, received_values, received_session, miss_refusal, miss_answer, miss_session, missed_session}
+use Rattle.std.proofs.Common.{Option, Some, None, Result, Ok, Err}
+use Rattle.code_questions.specs.declared.Refusal.{Refusal}
+use Rattle.code_questions.specs.Refusal.{number, answered, no_values}
+use Rattle.code_questions.proofs.RefusalLaws.{answered_ok, answered_err}
 use Rattle.session_receiver.specs.declared.Delivery.{Delivery}
 use Rattle.session_receiver.specs.declared.Receiver.{Receiver}
 use Rattle.session_receiver.specs.declared.Received.{Received}
-use Rattle.session_receiver.specs.declared.Received.TheVariants as R
-use Rattle.session_receiver.specs.declared.Missed.{Missed}
-use Rattle.session_receiver.specs.declared.Missed.TheVariants as M
 use Rattle.session_slot.specs.Slot.{slots, slot_time}
 use Rattle.text_lines.specs.Line.{Line, slot, miss, bad}
 use Rattle.list_line.specs.Listing.{reading_text, doubtful_text, missed_text, over_text, bad_text, blank, delivery_text, line_text, line_session, line_ends}
@@ -35,10 +34,10 @@ use Rattle.session_receiver.proofs.DeliveryLaws.{delivery_told}
 use Rattle.session_receiver.proofs.SoundLaws.{receive_yes, receive_doubtful, miss_yes}
 
 -- the message that Receive leaves can be unpacked
-zone_below : (q : ℕ) (reference : Reference) (constant : ℕ) → 0 < q → zone_symbol (zone_from q reference constant) < q
+zone_below : (q : ℕ) (reference : Option ℕ) (constant : ℕ) → 0 < q → zone_symbol (zone_from q reference constant) < q
 unfolding zone_from zone_symbol sub_mod
-zone_below q (Held r) constant h = mod-lt _ {m = q} h
-zone_below q Missing constant h = h
+zone_below q (Some r) constant h = mod-lt _ {m = q} h
+zone_below q None constant h = h
 
 symbols_unpack : (q m : ℕ) (t : List ℕ) → q ≡ 4 → m ≡ 4 → Symbols q (suc m) t → unpack_refusal t ≡ 0
 unfolding unpack_refusal ask
@@ -62,39 +61,39 @@ pub record Told (s : Receiver) (line : Line) (next : Receiver) (ends : Bool) (te
   pub printed : text ≡ line_text s line
 
 -- the cases of Receive's answer, with the message slice blank before it
-module _ (s : Receiver) (m w : List ℕ) (x : Received) (e : m ≡ blank) (answers : received x ≡ receive_answer s m w)
+module _ (s : Receiver) (m w : List ℕ) (x : Result Received Refusal) (e : m ≡ blank) (answers : received x ≡ receive_answer s m w)
     (leaves : received_session s x ≡ receive_session s m w) where
   on_blank : (number : ℕ) → receive_refusal s m w ≡ number → receive_refusal s blank w ≡ number
   on_blank number n = ap (λ l. receive_refusal s l w) (sym e) ∙ n
 
-  module _ (next : Receiver) (d : Delivery) (c : x ≡ R.Read next d) where
+  module _ (r : Received) (d : Delivery) (c : x ≡ Ok r) (f : r.delivery ≡ Some d) where
     read_told : (receive_refusal s m w ≡ 0) × (delivery_values d ≡ delivery_values (receive_delivery s w))
-    unfolding received receive_answer
-    read_told = answer_accepted (receive_refusal s m w) _ _ (ap received (sym c) ∙ answers)
+    unfolding received received_values receive_answer
+    read_told = answer_accepted (receive_refusal s m w) _ _ (ap received_values (sym f) ∙ ap received (sym c) ∙ answers)
 
     pub read_number : receive_refusal s m w ≡ 0
     read_number = read_told.0
 
     pub told_read : (buffer : List ℕ) (rate : ℕ) → buffer ≡ receive_message s m w → rate ≡ rate_of buffer
-        → Told s (slot w) next false (reading_text d.time rate d.zone d.wrong d.margin)
+        → Told s (slot w) r.receiver false (reading_text d.time rate d.zone d.wrong d.margin)
     unfolding received_session line_session line_ends line_text delivery_text
-    told_read buffer rate b r =
+    told_read buffer rate b k =
         let n = on_blank 0 read_number in
         let same : d ≡ receive_delivery s w = delivery_told d (receive_delivery s w) read_told.1 in
         record {
           session = ap (received_session s) (sym c) ∙ leaves ∙ ap (λ l. receive_session s l w) e;
           over = sym (after_read (receive_refusal s blank w) false false true n);
           printed =
-              ap₂ (λ f k. reading_text f.time k f.zone f.wrong f.margin) same (r ∙ ap rate_of (b ∙ ap (λ l. receive_message s l w) e))
+              ap₂ (λ g n. reading_text g.time n g.zone g.wrong g.margin) same (k ∙ ap rate_of (b ∙ ap (λ l. receive_message s l w) e))
               ∙ sym (after_read (receive_refusal s blank w) _ _ _ n);
         }
 
-  module _ (next : Receiver) (c : x ≡ R.Doubtful next) where
+  module _ (r : Received) (c : x ≡ Ok r) (f : r.delivery ≡ None) where
     pub doubtful_number : receive_refusal s m w ≡ 9
-    unfolding received receive_answer
-    doubtful_number = sym (answer_refused (receive_refusal s m w) 9 _ (ap received (sym c) ∙ answers)).0
+    unfolding received received_values receive_answer
+    doubtful_number = sym (answer_refused (receive_refusal s m w) 9 _ (ap received_values (sym f) ∙ ap received (sym c) ∙ answers)).0
 
-    pub told_doubtful : Told s (slot w) next false (doubtful_text (slot_time s.used))
+    pub told_doubtful : Told s (slot w) r.receiver false (doubtful_text (slot_time s.used))
     unfolding received_session line_session line_ends line_text
     told_doubtful =
         let n = on_blank 9 doubtful_number in
@@ -104,20 +103,20 @@ module _ (s : Receiver) (m w : List ℕ) (x : Received) (e : m ≡ blank) (answe
           printed = sym (after_doubtful (receive_refusal s blank w) _ _ _ n);
         }
 
-  module _ (number : ℕ) (c : x ≡ R.Refused number) where
+  module _ (r : Refusal) (c : x ≡ Err r) where
     left : s ≡ receive_session s m w
     unfolding received_session
     left = ap (received_session s) (sym c) ∙ leaves
 
-    over_number : (number ≡ receive_refusal s m w) × (receive_refusal s m w ≢ 0)
-    unfolding received receive_answer
-    over_number = answer_refused (receive_refusal s m w) number _ (ap received (sym c) ∙ answers)
+    over_number : (number r ≡ receive_refusal s m w) × (receive_refusal s m w ≢ 0)
+    unfolding received received_values receive_answer
+    over_number = answer_refused (receive_refusal s m w) (number r) _ (ap received (sym c) ∙ answers)
 
     -- a doubtful slot is used, so it is not told by a number
     not_doubtful : receive_refusal s m w ≢ 9
     unfolding receive_session next_receiver
     not_doubtful n =
-        let u : s.used ≡ s.used + 1 = ap (λ r. r.used) (left ∙ after_doubtful (receive_refusal s m w) _ (next_receiver s Missing) s n) in
+        let u : s.used ≡ s.used + 1 = ap (λ t. t.used) (left ∙ after_doubtful (receive_refusal s m w) _ (next_receiver s None) s n) in
         omega arith
 
     pub told_over : Told s (slot w) s true over_text
@@ -132,11 +131,11 @@ module _ (s : Receiver) (m w : List ℕ) (x : Received) (e : m ≡ blank) (answe
         }
 
 -- the cases of Miss's answer
-module _ (s : Receiver) (x : Missed) (answers : missed x ≡ miss_answer s) (leaves : missed_session s x ≡ miss_session s) where
-  module _ (next : Receiver) (c : x ≡ M.Used next) where
+module _ (s : Receiver) (x : Result Receiver Refusal) (answers : answered no_values x ≡ miss_answer s) (leaves : missed_session s x ≡ miss_session s) where
+  module _ (next : Receiver) (c : x ≡ Ok next) where
     pub missed_number : miss_refusal s ≡ 0
-    unfolding missed miss_answer
-    missed_number = (answer_accepted (miss_refusal s) _ _ (ap missed (sym c) ∙ answers)).0
+    unfolding miss_answer
+    missed_number = (answered_ok no_values (miss_refusal s) [] next (ap (answered no_values) (sym c) ∙ answers)).0
 
     pub told_missed : Told s miss next false (missed_text (slot_time s.used))
     unfolding missed_session line_session line_ends line_text
@@ -147,10 +146,10 @@ module _ (s : Receiver) (x : Missed) (answers : missed x ≡ miss_answer s) (lea
           printed = sym (after_yes (miss_refusal s) _ over_text missed_number);
         }
 
-  module _ (number : ℕ) (c : x ≡ M.Refused number) where
+  module _ (r : Refusal) (c : x ≡ Err r) where
     full : miss_refusal s ≢ 0
-    unfolding missed miss_answer
-    full = (answer_refused (miss_refusal s) number _ (ap missed (sym c) ∙ answers)).1
+    unfolding miss_answer
+    full = (answered_err no_values (miss_refusal s) [] r (ap (answered no_values) (sym c) ∙ answers)).1
 
     pub told_missed_over : Told s miss s true over_text
     unfolding missed_session line_session line_ends line_text
@@ -197,9 +196,3 @@ relisted s line other next ends b at end out e p = subst (λ l. Printed s l next
 pub of_session : (s t : Receiver) (line : Line) (next : Receiver) (ends : Bool) (b : List ℕ) (at end : ℕ) (out : List ℕ) → s ≡ t
     → Printed s line next ends b at end out → Printed t line next ends b at end out
 of_session s t line next ends b at end out e p = subst (λ r. Printed r line next ends b at end out) e p
-
--- a session whose code is q = 4, m = 4 is itself with that code
-pub same_code : (r : Receiver) → r.q ≡ 4 → r.m ≡ 4 → ◌≡◌ {A = Receiver} (record { q = 4; m = 4; reference = r.reference; used = r.used }) r
-same_code r e f =
-    ap (λ q. record { q = q; m = 4; reference = r.reference; used = r.used }) (sym e)
-    ∙ ap (λ m. record { q = r.q; m = m; reference = r.reference; used = r.used }) (sym f)

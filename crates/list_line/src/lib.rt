@@ -6,14 +6,15 @@ ghost use Rattle.text_buffer.specs.Text.{put};
 ghost use Rattle.text_buffer.specs.Internal.{field};
 ghost use Rattle.text_lines.specs.Line.{is_slot, word_of, read_line};
 ghost use Rattle.text_lines.specs.Line as L;
-ghost use Rattle.list_line.specs.Listing.{header, zone_text, reading_text, doubtful_text, missed_text, over_text, bad_text, blank, line_text, line_session, line_ends};
+ghost use Rattle.list_line.specs.Listing.{header, zone_text, reading_text, blank, line_text, line_session, line_ends};
 ghost use Rattle.list_line.specs.Internal.{Ready};
 
-use session::{Delivery, Missed, Received, Receiver, Zone};
+use session::{Delivery, Receiver};
 use text_lines::Kind;
 
-// What a line leaves: the session after it, the place behind its output, and whether it ends the reading.
-#[derive(Clone, Copy)]
+// What a line leaves: the session after it, the place behind its output, and whether it ends the reading. The session and the place are
+// told either way, so `over` stands beside them.
+#[derive(Clone, Copy, Debug, PartialEq, Eq)]
 pub struct Listed {
     pub receiver: Receiver,
     pub next: usize,
@@ -25,12 +26,10 @@ pub fn with_code(receiver: Receiver) -> Receiver
     requires { (receiver.q ≡ 4) × (receiver.m ≡ 4) }
     ensures { result ≡ receiver }
 {
-    let reference = receiver.reference;
     Receiver {
         q: 4,
         m: 4,
-        reference,
-        used: receiver.used,
+        ..receiver
     }
 }
 
@@ -43,24 +42,6 @@ pub fn put_header(out: &mut [u8], at: usize) -> usize
     text_buffer::put_text(b"ms rate zone wrong margin\n", out, at)
 }
 
-// Puts the output for a malformed line.
-fn put_bad(out: &mut [u8], at: usize) -> usize
-    requires { at + 64 ≤ length out.old }
-    ensures place { result ≡ at + length bad_text }
-    ensures buffer { out.new ≡ put out.old at bad_text }
-{
-    text_buffer::put_text(b"bad\n", out, at)
-}
-
-// Puts `over`: the session is full.
-fn put_over(out: &mut [u8], at: usize) -> usize
-    requires { at + 64 ≤ length out.old }
-    ensures place { result ≡ at + length over_text }
-    ensures buffer { out.new ≡ put out.old at over_text }
-{
-    text_buffer::put_text(b"over\n", out, at)
-}
-
 // Puts the time of a slot, a space, and what became of the slot.
 fn put_event(ms: u32, event: &[u8], out: &mut [u8], at: usize) -> usize
     requires { at + 11 + length event.now ≤ length out.old }
@@ -71,34 +52,16 @@ fn put_event(ms: u32, event: &[u8], out: &mut [u8], at: usize) -> usize
     text_buffer::put_text(event, out, next)
 }
 
-// Puts the output for a missed slot.
-fn put_missed(ms: u32, out: &mut [u8], at: usize) -> usize
-    requires { at + 64 ≤ length out.old }
-    ensures place { result ≡ at + length (missed_text ms) }
-    ensures buffer { out.new ≡ put out.old at (missed_text ms) }
-{
-    put_event(ms, b"missed\n", out, at)
-}
-
-// Puts the output for a doubtful slot.
-fn put_doubtful(ms: u32, out: &mut [u8], at: usize) -> usize
-    requires { at + 64 ≤ length out.old }
-    ensures place { result ≡ at + length (doubtful_text ms) }
-    ensures buffer { out.new ≡ put out.old at (doubtful_text ms) }
-{
-    put_event(ms, b"doubtful\n", out, at)
-}
-
 // Puts the zone, or `-` where there is none, and a space.
-fn put_zone(zone: Zone, out: &mut [u8], at: usize) -> usize
+fn put_zone(zone: Option<u8>, out: &mut [u8], at: usize) -> usize
     requires { at + 11 ≤ length out.old }
     ensures place { result ≡ at + length (zone_text zone ++ (32 ∷ [])) }
     ensures buffer { out.new ≡ put out.old at (zone_text zone ++ (32 ∷ [])) }
     ensures small { result ≤ at + 11 }
 {
     match zone {
-        Zone::Known(d) => text_buffer::put_field(d as u32, b' ', out, at),
-        Zone::Unknown => text_buffer::put_text(b"- ", out, at),
+        Some(d) => text_buffer::put_field(u32::from(d), b' ', out, at),
+        None => text_buffer::put_text(b"- ", out, at),
     }
 }
 
@@ -109,10 +72,9 @@ fn put_reading(rate: u8, delivery: Delivery, out: &mut [u8], at: usize) -> usize
     ensures place { result ≡ at + length (reading_text delivery.time rate delivery.zone delivery.wrong delivery.margin) }
     ensures buffer { out.new ≡ put out.old at (reading_text delivery.time rate delivery.zone delivery.wrong delivery.margin) }
 {
-    let zone = delivery.zone;
     let second = text_buffer::put_field(delivery.time, b' ', out, at);
-    let third = text_buffer::put_field(rate as u32, b' ', out, second);
-    let fourth = put_zone(zone, out, third);
+    let third = text_buffer::put_field(u32::from(rate), b' ', out, second);
+    let fourth = put_zone(delivery.zone, out, third);
     let fifth = text_buffer::put_field(delivery.wrong, b' ', out, fourth);
     text_buffer::put_field(delivery.margin, b'\n', out, fifth)
 }
@@ -132,31 +94,26 @@ fn list_word(
     ensures buffer { out.new ≡ put out.old at (line_text receiver (L.slot word.now)) }
 {
     match receiver.receive(message, word) {
-        Received::Read(next, delivery) => {
-            let rate = strap::rate_of(message);
-            let end = put_reading(rate, delivery, out, at);
-            Listed {
-                receiver: next,
-                next: end,
+        Ok(received) => match received.delivery {
+            Some(delivery) => {
+                let rate = strap::rate_of(message);
+                Listed {
+                    receiver: received.receiver,
+                    next: put_reading(rate, delivery, out, at),
+                    over: false,
+                }
+            }
+            None => Listed {
+                receiver: received.receiver,
+                next: put_event(session::slot_time(receiver.used), b"doubtful\n", out, at),
                 over: false,
-            }
-        }
-        Received::Doubtful(next) => {
-            let end = put_doubtful(session::slot_time(receiver.used), out, at);
-            Listed {
-                receiver: next,
-                next: end,
-                over: false,
-            }
-        }
-        Received::Refused(_) => {
-            let end = put_over(out, at);
-            Listed {
-                receiver,
-                next: end,
-                over: true,
-            }
-        }
+            },
+        },
+        Err(_) => Listed {
+            receiver,
+            next: text_buffer::put_text(b"over\n", out, at),
+            over: true,
+        },
     }
 }
 
@@ -183,22 +140,16 @@ pub fn list_miss(receiver: Receiver, out: &mut [u8], at: usize) -> Listed
     ensures buffer { out.new ≡ put out.old at (line_text receiver L.miss) }
 {
     match receiver.miss() {
-        Missed::Used(next) => {
-            let end = put_missed(session::slot_time(receiver.used), out, at);
-            Listed {
-                receiver: next,
-                next: end,
-                over: false,
-            }
-        }
-        Missed::Refused(_) => {
-            let end = put_over(out, at);
-            Listed {
-                receiver,
-                next: end,
-                over: true,
-            }
-        }
+        Ok(next) => Listed {
+            receiver: next,
+            next: put_event(session::slot_time(receiver.used), b"missed\n", out, at),
+            over: false,
+        },
+        Err(_) => Listed {
+            receiver,
+            next: text_buffer::put_text(b"over\n", out, at),
+            over: true,
+        },
     }
 }
 
@@ -213,13 +164,10 @@ pub fn list_line(receiver: Receiver, line: &[u8], out: &mut [u8], at: usize) -> 
     match text_lines::kind_of(line) {
         Kind::Slot => list_slot(receiver, line, out, at),
         Kind::Miss => list_miss(receiver, out, at),
-        Kind::Bad => {
-            let end = put_bad(out, at);
-            Listed {
-                receiver,
-                next: end,
-                over: false,
-            }
-        }
+        Kind::Bad => Listed {
+            receiver,
+            next: text_buffer::put_text(b"bad\n", out, at),
+            over: false,
+        },
     }
 }

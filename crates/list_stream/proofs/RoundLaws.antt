@@ -1,19 +1,15 @@
 -- What a round leaves, by what the read gave. Assumes nothing.
 use Prim.Native.Nat.{ℕ, zero, suc, ◌+◌, ◌≤◌}
-use mathlib.Core.Path.{◌≡◌, refl, ap, ◌∙◌, subst}
-use mathlib.Core.Bool.{true, false, true≢false}
+use mathlib.Core.Path.{◌≡◌, ap, sym, ◌∙◌, subst}
 use mathlib.Core.List.{List, []}
 use native.Mathlib.Omega.{arith}
-use borrow.Author.Tests.{ltb-true}
 use lib.ListN.{length, take, drop, length-drop}
 use lib.Seq.{length-take-le}
-use lib.IntN.{ℤ, pos, negsuc, nat_abs}
-use lib.Signed.{lt_z}
+use Rattle.std.proofs.Common.{ℤ, Result, Ok, Err}
 use Rattle.text_buffer.specs.Text.{put}
 use Rattle.session_receiver.specs.declared.Receiver.{Receiver}
 use Rattle.text_chunks.specs.declared.Next.{Next}
-use Rattle.text_chunks.specs.declared.Next.TheVariants.{End}
-use Rattle.text_chunks.specs.Chunks.{Progress, fed, fed_text, fed_count, fed_part, end_text}
+use Rattle.text_chunks.specs.Chunks.{Progress, fed, fed_text, fed_count, fed_part}
 use Rattle.text_chunks.specs.Reading.{given, after_failure, after_part}
 use Rattle.text_chunks.specs.Internal.{rest_place}
 use Rattle.text_chunks.proofs.CountLaws.{count_le}
@@ -30,7 +26,7 @@ pub part_fed : (p : Progress Receiver) (bytes before after line : List ℕ) (n r
     → progress l line ≡ fed reader p (take read (remaining bytes n))
     → written ≡ length (fed_text reader p (take read (remaining bytes n)))
     → after ≡ put before 0 (fed_text reader p (take read (remaining bytes n)))
-    → written ≤ length after → Fit l line → next ≡ after_part l.over (n + read) (length bytes)
+    → written ≤ length after → Fit l → next ≡ after_part l.over (n + read) (length bytes)
     → Part p line bytes n before after (record { lister = l; written = written; next = next })
 unfolding fed_part
 part_fed p bytes before after line n read written l next h a s c b w f e =
@@ -46,51 +42,25 @@ part_fed p bytes before after line n read written l next h a s c b w f e =
       fit = f;
     }
 
--- the three cases
-module _ (error : ℤ) (l : Lister) (line line' chunk before after : List ℕ) (n : ℕ) (r : Round) where
+-- a round by its case
+module _ (l : Lister) (line line' chunk before after : List ℕ) (n : ℕ) (r : Round) where
   -- what the round leaves where the read gave so much
-  abbrev pub Leaves : ℤ → Type 0
-  Leaves got = RoundOf got error l line line' chunk n before after r
+  abbrev pub Leaves : Result ℕ ℤ → Type 0
+  Leaves got = RoundOf got l line line' chunk n before after r
 
-  pub round_failed : (got z : ℤ) → z ≡ got → lt_z z (pos 0) ≡ true → Unfed l line line' [] before after (after_failure error) r → Leaves got
-  round_failed got z e t h = subst Leaves e (go z t)
-    where
-      go : (y : ℤ) → lt_z y (pos 0) ≡ true → Leaves y
-      go (pos k) u = absurd (omega (arith, ltb-true k 0 u))
-      go (negsuc k) u = h
-
-  pub round_end : (got z : ℤ) → z ≡ got → lt_z z (pos 0) ≡ false → nat_abs z ≡ 0
-      → Unfed l line line' (end_text reader (progress l line)) before after End r → Leaves got
-  round_end got z e t o h = subst Leaves e (go z t o)
-    where
-      go : (y : ℤ) → lt_z y (pos 0) ≡ false → nat_abs y ≡ 0 → Leaves y
-      go (pos zero) u v = h
-      go (pos (suc k)) u v = absurd (omega (arith, v))
-      go (negsuc k) u v = absurd (true≢false u)
-
-  pub round_part : (got z : ℤ) → z ≡ got → lt_z z (pos 0) ≡ false → (nat_abs z ≡ 0 → ⊥)
-      → Part (progress l line) line' (take (nat_abs z) chunk) n before after r → Leaves got
-  round_part got z e t o h = subst Leaves e (go z t o h)
-    where
-      go : (y : ℤ) → lt_z y (pos 0) ≡ false → (nat_abs y ≡ 0 → ⊥) → Part (progress l line) line' (take (nat_abs y) chunk) n before after r → Leaves y
-      go (pos zero) u v w = absurd (v refl)
-      go (pos (suc k)) u v w = w
-      go (negsuc k) u v w = absurd (true≢false u)
+  pub round_failed : (got : Result ℕ ℤ) (error : ℤ) → got ≡ Err error → Unfed l line line' [] before after (after_failure error) r → Leaves got
+  round_failed got error e h = subst Leaves (sym e) h
 
   -- WHAT EVERY ROUND LEAVES: a lister that goes on, text within the buffer, and a place within the bytes that the read gave
-  pub round_fits : (got z : ℤ) → z ≡ got → given got ≤ length chunk → n ≤ given got → Leaves z
-      → Fit r.lister line' × (r.written ≤ length after) × (rest_place r.next ≤ given z)
+  pub round_fits : (got : Result ℕ ℤ) → given got ≤ length chunk → n ≤ given got → Leaves got
+      → Fit r.lister × (r.written ≤ length after) × (rest_place r.next ≤ given got)
   unfolding given rest_place
-  round_fits got z e g h t = go z (omega (arith, g, ap given e)) (omega (arith, h, ap given e)) t
-    where
-      go : (y : ℤ) → given y ≤ length chunk → n ≤ given y → Leaves y
-          → Fit r.lister line' × (r.written ≤ length after) × (rest_place r.next ≤ given y)
-      go (pos zero) g h t = (t.fit, t.room, omega (arith, ap rest_place t.then))
-      go (pos (suc k)) g h t =
-          let bytes = take (suc k) chunk in
-          let p = progress l line in
-          let size : length bytes ≡ suc k = length-take-le (suc k) chunk g in
-          let count = fed_count reader p (length before) (drop n bytes) in
-          let read : n + count ≤ length bytes = omega (arith, count_le reader p (length before) (drop n bytes), length-drop n bytes, size, h) in
-          (t.fit, t.room, omega (arith, ap rest_place t.next, part_place r.lister.over (n + count) (length bytes) read, size))
-      go (negsuc k) g h t = (t.fit, t.room, omega (arith, ap rest_place t.then, failed_place error))
+  round_fits (Err error) g h t = (t.fit, t.room, omega (arith, h, ap rest_place t.then, failed_place error))
+  round_fits (Ok zero) g h t = (t.fit, t.room, omega (arith, ap rest_place t.then))
+  round_fits (Ok (suc k)) g h t =
+      let bytes = take (suc k) chunk in
+      let p = progress l line in
+      let size : length bytes ≡ suc k = length-take-le (suc k) chunk g in
+      let count = fed_count reader p (length before) (drop n bytes) in
+      let read : n + count ≤ length bytes = omega (arith, count_le reader p (length before) (drop n bytes), length-drop n bytes, size, h) in
+      (t.fit, t.room, omega (arith, ap rest_place t.next, part_place r.lister.over (n + count) (length bytes) read, size))

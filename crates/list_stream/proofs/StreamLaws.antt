@@ -6,7 +6,12 @@ use mathlib.Core.List.{List, [], ◌∷◌, ◌++◌, append-nil}
 use native.Mathlib.Omega.{arith}
 use lib.ListN.{length, take}
 use Rattle.text_buffer.proofs.PutLaws.{Written}
+use Rattle.std.specs.Result.{result_unwrap_or}
+use Rattle.std.proofs.Common.{Result, Ok, Err}
+use Rattle.code_questions.specs.declared.Refusal.{Refusal}
 use Rattle.session_receiver.specs.declared.Receiver.{Receiver}
+use Rattle.session_receiver.specs.Receiving.{new_receiver, open_receiver, opened_receiver}
+use Rattle.session_receiver.proofs.SoundLaws.{receiver_opened_lem}
 use Rattle.session_receiver.proofs.AfterLaws.{SameCode, receive_code, miss_code}
 use Rattle.text_lines.specs.Line.{Line, slot, miss, bad, lines_from, read_line}
 use Rattle.text_lines.specs.Internal.{line_length}
@@ -22,6 +27,12 @@ use Rattle.list_stream.specs.Internal.{Ended, Goes, Reads}
 use Rattle.list_stream.specs.declared.Lister.{Lister}
 use Rattle.list_stream.specs.declared.Step.{Step}
 
+-- the session that is opened: q = 4, m = 4 are not refused
+pub start_opened : (r : Result Receiver Refusal) → opened_receiver r ≡ open_receiver 4 4 → result_unwrap_or r (new_receiver 4 4) ≡ opened
+unfolding opened opened_receiver
+start_opened (Ok s) e = sym (receiver_opened_lem 4 4 s (sym e)).2
+start_opened (Err r) e = refl
+
 -- the lines of an input tell what the program lists
 told_listed : (s : Receiver) (lines : List (List ℕ)) → told reader s lines ≡ listed s lines
 unfolding told listed
@@ -35,6 +46,11 @@ pub chunks_listing : (chunks : List (List ℕ)) → header ++ chunks_text reader
 unfolding listing begun
 chunks_listing chunks = ap (λ l. header ++ l) (chunks_told reader opened chunks ∙ told_listed opened (lines_from [] (joined chunks)))
 
+-- a list that is not empty has a length
+pub length_some : (xs : List ℕ) → (xs ≡ [] → ⊥) → 0 < length xs
+length_some [] d = absurd (d refl)
+length_some (x ∷ xs) d = omega arith
+
 -- the text of a last line that lacks its newline
 pub end_line : (p : Progress Receiver) → p.over ≡ false → 0 < length p.part → end_text reader p ≡ line_text p.state (read_line p.part)
 end_line p o h = end_last reader p o ∙ last_some reader p.state p.part h ∙ append-nil _
@@ -47,37 +63,36 @@ line_code s miss = miss_code s
 line_code s bad = (refl, refl)
 
 -- a line leaves q = 4, m = 4
-pub line_fit : (l : Lister) (kept : List ℕ) (x : Line) (next : Receiver) → Fit l kept → next ≡ line_session l.receiver x → (next.q ≡ 4) × (next.m ≡ 4)
-line_fit l kept x next f e =
+pub line_fit : (l : Lister) (x : Line) (next : Receiver) → Fit l → next ≡ line_session l.receiver x → (next.q ≡ 4) × (next.m ≡ 4)
+line_fit l x next f e =
     let code = line_code l.receiver x in
     (ap (λ t. t.q) e ∙ code.0 ∙ f.alphabet, ap (λ t. t.m) e ∙ code.1 ∙ f.variables)
 
-module _ (l : Lister) (start line bytes before : List ℕ) (place : ℕ) (g : Goes l start bytes before place) (size : length line ≡ 17) where
+module _ (l : Lister) (line bytes before : List ℕ) (place : ℕ) (g : Goes l bytes before place) where
   -- a line that is listed
-  pub reads_line : (x : Line) (one : Listed) (read : ℕ) (r : Step) (out : List ℕ) → read ≡ line_length bytes + 1 → line_length bytes < length bytes
-      → read_line (keep_all (take l.kept start) (take (line_length bytes) bytes)) ≡ x
+  pub reads_line : (x : Line) (one : Listed) (read : ℕ) (r : Step) (rest out : List ℕ) → rest ≡ [] → read ≡ line_length bytes + 1
+      → line_length bytes < length bytes → read_line (keep_all line (take (line_length bytes) bytes)) ≡ x
       → one.receiver ≡ line_session l.receiver x → one.over ≡ line_ends l.receiver x
-      → Written before place (line_text l.receiver x) one.next out → Ended one read r → Reads (progress l start) bytes before place r line out
+      → Written before place (line_text l.receiver x) one.next out → Ended one read r → Reads (progress l line) bytes before place r rest out
   unfolding progress
-  reads_line x one read r out n h e s o w d =
+  reads_line x one read r rest out b n h e s o w d =
       let next = d.receiver ∙ s in
-      let code = line_fit l start x r.lister.receiver g.fit next in
+      let code = line_fit l x r.lister.receiver g.fit next in
       let written : Written before place (line_text l.receiver x) r.next out = record { place = d.next ∙ w.place; buffer = w.buffer } in
-      let none : [] ≡ take r.lister.kept line = ap (λ i. take i line) (sym d.kept) in
-      let p = progress l start in
+      let p = progress l line in
       let q : List ℕ → Progress Receiver = λ part. record { state = r.lister.receiver; part = part; over = r.lister.over } in
       let took : Took reader p bytes before place (q []) r.next r.read out =
       took_line reader p bytes before place g.on g.room x _ _ r.next r.read out (d.read ∙ n) h e next (d.over ∙ o) written in
       record {
-        took = subst (λ part. Took reader p bytes before place (q part) r.next r.read out) none took;
-        fit = record { alphabet = code.0; variables = code.1; kept = omega (arith, d.kept); size = size };
+        took = subst (λ part. Took reader p bytes before place (q part) r.next r.read out) (sym b) took;
+        fit = record { alphabet = code.0; variables = code.1 };
       }
 
   -- bytes with no newline, which are kept
-  pub reads_part : (kept n : ℕ) → n ≡ line_length bytes → n ≡ length bytes → kept ≤ 17 → take kept line ≡ keep_all (take l.kept start) (take n bytes)
-      → Reads (progress l start) bytes before place (record { lister = record { receiver = l.receiver; kept = kept; over = l.over }; next = place; read = n }) line before
+  pub reads_part : (rest : List ℕ) (n : ℕ) → n ≡ line_length bytes → n ≡ length bytes → rest ≡ keep_all line (take n bytes)
+      → Reads (progress l line) bytes before place (record { lister = l; next = place; read = n }) rest before
   unfolding progress
-  reads_part kept n a b small e = record {
-    took = took_part reader (progress l start) bytes before place g.on g.room (take kept line) n a b g.some e;
-    fit = record { alphabet = g.fit.alphabet; variables = g.fit.variables; kept = small; size = size };
+  reads_part rest n a b e = record {
+    took = took_part reader (progress l line) bytes before place g.on g.room rest n a b g.some e;
+    fit = g.fit;
   }

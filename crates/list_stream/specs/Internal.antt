@@ -11,14 +11,13 @@ use Rattle.list_stream.specs.Stream.{reader, progress, Fit}
 -- what a line that is listed leaves
 pub record Ended (listed : Listed) (count : ℕ) (r : Step) : Type 0 where
   pub receiver : r.lister.receiver ≡ listed.receiver
-  pub kept : r.lister.kept ≡ 0
   pub over : r.lister.over ≡ listed.over
   pub next : r.next ≡ listed.next
   pub read : r.read ≡ count
 
 -- what bytes are read with: a lister that goes on, and 64 places left in the buffer
-pub record Goes (l : Lister) (line bytes out : List ℕ) (place : ℕ) : Type 0 where
-  pub fit : Fit l line
+pub record Goes (l : Lister) (bytes out : List ℕ) (place : ℕ) : Type 0 where
+  pub fit : Fit l
   pub on : l.over ≡ false
   pub some : 0 < length bytes
   pub room : place + 64 ≤ length out
@@ -26,4 +25,4 @@ pub record Goes (l : Lister) (line bytes out : List ℕ) (place : ℕ) : Type 0 
 -- what the bytes that are read leave
 pub record Reads (p : Progress Receiver) (bytes before : List ℕ) (place : ℕ) (r : Step) (line out : List ℕ) : Type 0 where
   pub took : Took reader p bytes before place (progress r.lister line) r.next r.read out
-  pub fit : Fit r.lister line
+  pub fit : Fit r.lister

@@ -1,5 +1,5 @@
 -- One round of the program session_list: what is fed, what is written and what comes next, for each answer of a read.
-use Rattle.std.specs.Prelude.{ℕ, zero, suc, ◌+◌, ◌≤◌, ◌≡◌, List, [], length, take, drop, ℤ, pos, negsuc}
+use Rattle.std.specs.Prelude.{ℕ, zero, suc, ◌+◌, ◌≤◌, ◌≡◌, List, [], length, take, drop, ℤ, Result, Ok, Err}
 use Rattle.text_buffer.specs.Text.{put}
 use Rattle.session_receiver.specs.declared.Receiver.{Receiver}
 use Rattle.text_chunks.specs.declared.Next.{Next}
@@ -17,7 +17,7 @@ pub record Part (p : Progress Receiver) (line bytes : List ℕ) (n : ℕ) (befor
   pub buffer : after ≡ put before 0 (fed_text reader p (fed_part reader p (length before) bytes n))
   pub next : r.next ≡ after_part r.lister.over (n + fed_count reader p (length before) (drop n bytes)) (length bytes)
   pub room : r.written ≤ length after
-  pub fit : Fit r.lister line
+  pub fit : Fit r.lister
 
 -- nothing is fed, and this text is to be written
 pub record Unfed (l : Lister) (line line' text before after : List ℕ) (next : Next) (r : Round) : Type 0 where
@@ -27,10 +27,10 @@ pub record Unfed (l : Lister) (line line' text before after : List ℕ) (next : 
   pub buffer : after ≡ put before 0 text
   pub then : r.next ≡ next
   pub room : r.written ≤ length after
-  pub fit : Fit r.lister line'
+  pub fit : Fit r.lister
 
--- ONE ROUND, by what the read gave: less than 0, 0, or more
-abbrev pub RoundOf : ℤ → ℤ → Lister → List ℕ → List ℕ → List ℕ → ℕ → List ℕ → List ℕ → Round → Type 0
-RoundOf (negsuc k) error l line line' chunk n before after r = Unfed l line line' [] before after (after_failure error) r
-RoundOf (pos zero) error l line line' chunk n before after r = Unfed l line line' (end_text reader (progress l line)) before after End r
-RoundOf (pos (suc k)) error l line line' chunk n before after r = Part (progress l line) line' (take (suc k) chunk) n before after r
+-- ONE ROUND, by what the read gave: its error, no bytes, or some
+abbrev pub RoundOf : Result ℕ ℤ → Lister → List ℕ → List ℕ → List ℕ → ℕ → List ℕ → List ℕ → Round → Type 0
+RoundOf (Err error) l line line' chunk n before after r = Unfed l line line' [] before after (after_failure error) r
+RoundOf (Ok zero) l line line' chunk n before after r = Unfed l line line' (end_text reader (progress l line)) before after End r
+RoundOf (Ok (suc k)) l line line' chunk n before after r = Part (progress l line) line' (take (suc k) chunk) n before after r

@@ -11,19 +11,19 @@ ghost use Rattle.list_stream.specs.Rounds.{Part, RoundOf};
 ghost use Rattle.list_stream.specs.Internal.{Ended, Goes, Reads};
 
 use list_line::Listed;
-use session::{Receiver, ReceiverOpened, Reference};
-use text_chunks::Next;
+use session::Receiver;
+use text_chunks::{Line, Next};
 
-// A listing on its way: the session, how many bytes of the line that has begun are kept, and whether the reading has ended.
-#[derive(Clone, Copy)]
+// A listing on its way: the session, and whether the reading has ended; the session is told either way, so `over` stands beside it. What is
+// kept of the line that has begun goes with it in a `Line`.
+#[derive(Clone, Copy, Debug, PartialEq, Eq)]
 pub struct Lister {
     pub receiver: Receiver,
-    pub kept: usize,
     pub over: bool,
 }
 
 // What some bytes leave: the lister, the place behind their output, and how many they were.
-#[derive(Clone, Copy)]
+#[derive(Clone, Copy, Debug, PartialEq, Eq)]
 struct Step {
     lister: Lister,
     next: usize,
@@ -31,7 +31,7 @@ struct Step {
 }
 
 // What a chunk leaves: the lister, how many of its bytes were read, and how many bytes of output they brought.
-#[derive(Clone, Copy)]
+#[derive(Clone, Copy, Debug, PartialEq, Eq)]
 struct Fed {
     lister: Lister,
     read: usize,
@@ -40,25 +40,18 @@ struct Fed {
 
 // Opens the session.
 pub fn start() -> Lister
-    ensures { (result.receiver ≡ opened) × (result.kept ≡ 0) × (result.over ≡ false) }
+    ensures { (result.receiver ≡ opened) × (result.over ≡ false) }
 {
-    match Receiver::open(4, 4) {
-        ReceiverOpened::Opened(receiver) => Lister {
-            receiver,
-            kept: 0,
-            over: false,
-        },
-        // Never: q = 4 and m = 4 are not refused.
-        ReceiverOpened::Refused(_) => Lister {
-            receiver: Receiver {
-                q: 4,
-                m: 4,
-                reference: Reference::Missing,
-                used: 0,
-            },
-            kept: 0,
-            over: false,
-        },
+    // Never refused: q = 4 and m = 4.
+    let receiver = Receiver::open(4, 4).unwrap_or(Receiver {
+        q: 4,
+        m: 4,
+        reference: None,
+        used: 0,
+    });
+    Lister {
+        receiver,
+        over: false,
     }
 }
 
@@ -67,11 +60,9 @@ fn after_line(listed: Listed, read: usize) -> Step
     requires { (listed.receiver.q ≡ 4) × (listed.receiver.m ≡ 4) }
     ensures { Ended listed read result }
 {
-    let receiver = list_line::with_code(listed.receiver);
     Step {
         lister: Lister {
-            receiver,
-            kept: 0,
+            receiver: list_line::with_code(listed.receiver),
             over: listed.over,
         },
         next: listed.next,
@@ -80,41 +71,33 @@ fn after_line(listed: Listed, read: usize) -> Step
 }
 
 // Reads to the end of the line, or of the bytes. A miss is listed where it stands.
-fn read_part(lister: Lister, line: &mut [u8], bytes: &[u8], out: &mut [u8], at: usize) -> Step
-    requires { Goes lister line.old bytes.now out.old at }
+fn read_part(lister: Lister, line: &mut Line, bytes: &[u8], out: &mut [u8], at: usize) -> Step
+    requires { Goes lister bytes.now out.old at }
     ensures { Reads (progress lister line.old) bytes.now out.old at result line.new out.new }
 {
     let n = text_lines::line_length(bytes);
-    let begun = lister.kept;
-    if begun == 0 && text_lines::has_miss(n, bytes) {
+    if line.is_empty() && text_lines::has_miss(n, bytes) {
         return after_line(list_line::list_miss(lister.receiver, out, at), 2);
     }
-    let kept = text_chunks::keep_part(begun, line, &bytes[..n]);
+    line.keep(&bytes[..n]);
     if n == bytes.len() {
-        let receiver = lister.receiver;
         return Step {
-            lister: Lister {
-                receiver,
-                kept,
-                over: lister.over,
-            },
+            lister,
             next: at,
             read: n,
         };
     }
-    after_line(
-        list_line::list_line(lister.receiver, &line[..kept], out, at),
-        n + 1,
-    )
+    let listed = list_line::list_line(lister.receiver, line.as_slice(), out, at);
+    line.clear();
+    after_line(listed, n + 1)
 }
 
 // Reads to the end of the line, or of the bytes. A slot is listed where it stands.
-fn read_line(lister: Lister, line: &mut [u8], bytes: &[u8], out: &mut [u8], at: usize) -> Step
-    requires { Goes lister line.old bytes.now out.old at }
+fn read_line(lister: Lister, line: &mut Line, bytes: &[u8], out: &mut [u8], at: usize) -> Step
+    requires { Goes lister bytes.now out.old at }
     ensures { Reads (progress lister line.old) bytes.now out.old at result line.new out.new }
 {
-    let begun = lister.kept;
-    if begun == 0 && text_lines::has_slot(bytes) {
+    if line.is_empty() && text_lines::has_slot(bytes) {
         return after_line(
             list_line::list_slot(lister.receiver, &bytes[..16], out, at),
             17,
@@ -123,68 +106,51 @@ fn read_line(lister: Lister, line: &mut [u8], bytes: &[u8], out: &mut [u8], at: 
     read_part(lister, line, bytes, out, at)
 }
 
-// Lists the bytes of a chunk, up to its end, the end of the reading, or the byte before which the buffer has no room for a line.
-fn feed(lister: Lister, line: &mut [u8], chunk: &[u8], out: &mut [u8]) -> Fed
-    requires { Fit lister line.old }
+// The loop counts nothing: each turn reads a line. It lists the bytes of a chunk, up to its end, the end of the reading, or the byte before
+// which the buffer has no room for a line.
+fn feed(lister: Lister, line: &mut Line, chunk: &[u8], out: &mut [u8]) -> Fed
+    requires { Fit lister }
     ensures state { progress result.lister line.new ≡ fed reader (progress lister line.old) (take result.read chunk.now) }
     ensures count { result.written ≡ length (fed_text reader (progress lister line.old) (take result.read chunk.now)) }
     ensures buffer { out.new ≡ put out.old 0 (fed_text reader (progress lister line.old) (take result.read chunk.now)) }
     ensures read { result.read ≡ fed_count reader (progress lister line.old) (length out.old) chunk.now }
     ensures bounds { (result.read ≤ length chunk.now) × (result.written ≤ length out.new) }
-    ensures fit { Fit result.lister line.new }
+    ensures fit { Fit result.lister }
 {
-    let mut state = lister;
-    let mut read = 0;
-    let mut written = 0;
-    while read < chunk.len() {
-        let over = state.over;
-        if over {
-            return Fed {
-                lister: state,
-                read,
-                written,
-            };
-        }
-        if out.len() - written < 64 {
-            return Fed {
-                lister: state,
-                read,
-                written,
-            };
-        }
-        let s = read_line(state, line, &chunk[read..], out, written);
-        state = s.lister;
-        written = s.next;
-        read += s.read;
+    let mut fed = Fed {
+        lister,
+        read: 0,
+        written: 0,
+    };
+    while fed.read < chunk.len() && !fed.lister.over && 64 <= out.len() - fed.written {
+        let step = read_line(fed.lister, line, &chunk[fed.read..], out, fed.written);
+        fed = Fed {
+            lister: step.lister,
+            read: fed.read + step.read,
+            written: step.next,
+        };
     }
-    Fed {
-        lister: state,
-        read,
-        written,
-    }
+    fed
 }
 
 // Lists the last line, which lacks its newline, at the end of the input.
-fn finish(lister: Lister, line: &[u8], out: &mut [u8]) -> usize
-    requires { Fit lister line.now × (64 ≤ length out.old) }
+fn finish(lister: Lister, line: &Line, out: &mut [u8]) -> usize
+    requires { Fit lister × (64 ≤ length out.old) }
     ensures count { result ≡ length (end_text reader (progress lister line.now)) }
     ensures buffer { out.new ≡ put out.old 0 (end_text reader (progress lister line.now)) }
     ensures bound { result ≤ length out.new }
 {
-    let over = lister.over;
-    if over {
+    if lister.over {
         return 0;
     }
-    let kept = lister.kept;
-    if kept == 0 {
+    if line.is_empty() {
         return 0;
     }
-    let listed = list_line::list_line(lister.receiver, &line[..kept], out, 0);
-    listed.next
+    list_line::list_line(lister.receiver, line.as_slice(), out, 0).next
 }
 
 // What a round leaves: the lister, how many bytes of the output are to be written, and what comes next.
-#[derive(Clone, Copy)]
+#[derive(Clone, Copy, Debug, PartialEq, Eq)]
 pub struct Round {
     pub lister: Lister,
     pub written: usize,
@@ -192,49 +158,42 @@ pub struct Round {
 }
 
 // Lists the bytes from a place on, as far as the output has room.
-fn list_part(lister: Lister, line: &mut [u8], bytes: &[u8], at: usize, out: &mut [u8]) -> Round
-    requires { Fit lister line.old × (at ≤ length bytes.now) }
+fn list_part(lister: Lister, line: &mut Line, bytes: &[u8], at: usize, out: &mut [u8]) -> Round
+    requires { Fit lister × (at ≤ length bytes.now) }
     ensures { Part (progress lister line.old) line.new bytes.now at out.old out.new result }
 {
     let fed = feed(lister, line, &bytes[at..], out);
-    let state = fed.lister;
-    let next = text_chunks::after_part(state.over, at + fed.read, bytes.len());
     Round {
-        lister: state,
+        lister: fed.lister,
         written: fed.written,
-        next,
+        next: text_chunks::after_part(fed.lister.over, at + fed.read, bytes.len()),
     }
 }
 
-// One round of the program, by what its last read gave: so many bytes of the chunk, of which those before a place are listed; 0 at the end
-// of the input; less where it failed, with this error.
+// One round of the program, by what its last read gave: so many bytes of the chunk, of which those before a place are listed, 0 at the end
+// of the input; or the error of a read that failed.
 pub fn list_round(
     lister: Lister,
-    line: &mut [u8],
-    got: isize,
-    error: i32,
+    line: &mut Line,
+    read: Result<usize, i32>,
     chunk: &[u8],
     at: usize,
     out: &mut [u8],
 ) -> Round
-    requires { Fit lister line.old × (64 ≤ length out.old) × (given got ≤ length chunk.now) × (at ≤ given got) }
-    ensures { RoundOf got error lister line.old line.new chunk.now at out.old out.new result }
+    requires { Fit lister × (64 ≤ length out.old) × (given read ≤ length chunk.now) × (at ≤ given read) }
+    ensures { RoundOf read lister line.old line.new chunk.now at out.old out.new result }
 {
-    if got < 0 {
-        return Round {
+    match read {
+        Err(error) => Round {
             lister,
             written: 0,
             next: text_chunks::after_failure(error),
-        };
-    }
-    let n = got as usize;
-    if n == 0 {
-        let written = finish(lister, line, out);
-        return Round {
+        },
+        Ok(0) => Round {
             lister,
-            written,
+            written: finish(lister, line, out),
             next: Next::End,
-        };
+        },
+        Ok(n) => list_part(lister, line, &chunk[..n], at, out),
     }
-    list_part(lister, line, &chunk[..n], at, out)
 }

@@ -5,16 +5,14 @@ ghost use Rattle.std.specs.Prelude.{◌≡◌};
 ghost use Rattle.codec.specs.Codec.{encode_word, decode_message};
 ghost use Rattle.rm_c.specs.CForm.{write_number, read_number};
 
-use codec::{Decoded, Encoded};
-
 #[unsafe(no_mangle)]
 pub extern "C" fn rm_write(q: u32, m: u32, message: &[u8], word: &mut [u8]) -> u32
     ensures answer { result ≡ write_number q m message.now word.old }
     ensures buffer { word.new ≡ encode_word q m message.now word.old }
 {
     match codec::encode(q, m, message, word) {
-        Encoded::Written => 100,
-        Encoded::Refused(number) => number,
+        Ok(()) => 100,
+        Err(refusal) => refusal.into(),
     }
 }
 
@@ -24,7 +22,7 @@ pub extern "C" fn rm_read(q: u32, m: u32, message: &mut [u8], word: &[u8]) -> u3
     ensures buffer { message.new ≡ decode_message q m message.old word.now }
 {
     match codec::decode(q, m, message, word) {
-        Decoded::Read(reading) => 100 + reading.wrong,
-        Decoded::Refused(number) => number,
+        Ok(reading) => 100 + reading.wrong,
+        Err(refusal) => refusal.into(),
     }
 }

@@ -4,6 +4,7 @@ use mathlib.Core.Path.{◌≡◌, refl, ap, ap₂, sym, subst, ◌∙◌}
 use mathlib.Core.Bool.{true}
 use mathlib.Core.List.{List, [], ◌∷◌, map}
 use mathlib.Core.Option.{some, some-injective, none-ne-some}
+use Rattle.std.specs.Prelude.{Some}
 use native.Mathlib.Nat.{zero-add, suc-add}
 use native.Mathlib.Omega.{arith}
 use lib.ListN.{length, get_elem?, take, drop, length-drop, length-map}
@@ -88,7 +89,7 @@ module _ (q m count : ℕ) (strap : List SenderSlot) (slots : Slots q (2 ^ m) st
     counted = sum_ext (2 ^ m) _ _ (λ s l. ap₂ differ (ap (λ a. (a + t) % q) (sent_at s l)) (returned_at s l))
 
 -- every slot of the strap has a word of n symbols below q
-strap_slots : (q m : ℕ) (sender : Sender) → open_sender q m ≡ some sender → (sends : List Send) → Slots q (2 ^ m) (sender_slots sender sends)
+strap_slots : (q m : ℕ) (sender : Sender) → open_sender q m ≡ Some sender → (sends : List Send) → Slots q (2 ^ m) (sender_slots sender sends)
 strap_slots q m sender a sends j x e =
     let (alphabet, _, _) = sender_opened_lem q m sender a in
     let (_, f) = strap_word q m sender a sends j x e in
@@ -96,7 +97,7 @@ strap_slots q m sender a sends j x e =
 
 -- WHOLE SESSIONS IN GROUPS: for every q and m that the openings accept, every turn t, every W from 1 to 16, every two lists of calls, and
 -- every passage of the groups
-pub grouped_sessions : (q m : ℕ) (sender : Sender) (receiver : Receiver) → open_sender q m ≡ some sender → open_receiver q m ≡ some receiver
+pub grouped_sessions : (q m : ℕ) (sender : Sender) (receiver : Receiver) → open_sender q m ≡ Some sender → open_receiver q m ≡ Some receiver
     → (t : ℕ) → t < q → (count : ℕ) → is_group count ≡ true → (sends : List Send) (calls : List ReceiverCall) (passages : ℕ → Passage)
     → GroupedSessions q m t count (sender_slots sender sends) (receiver_slots receiver calls) (sender_after sender sends) (receiver_after receiver calls) passages
 grouped_sessions q m sender receiver a b t l count group sends calls passages =
@@ -118,7 +119,7 @@ grouped_sessions q m sender receiver a b t l count group sends calls passages =
     }
 
 -- ONE RUN, WHOLE SESSIONS: each word of a group that only such a run altered is a slot of which Whole sessions speaks
-pub burst_slots : (q m : ℕ) (sender : Sender) → open_sender q m ≡ some sender → (t count : ℕ) (sends : List Send) (launch : List ReceiverSlot)
+pub burst_slots : (q m : ℕ) (sender : Sender) → open_sender q m ≡ Some sender → (t count : ℕ) (sends : List Send) (launch : List ReceiverSlot)
     → (passage : Passage) (g start len : ℕ) → BurstPassage q m t count start len (sender_slots sender sends) passage g
     → (w : ℕ) (x : SenderSlot) → w < count → get_elem? (sender_slots sender sends) (count * g + w) ≡ some x
     → received_word (get_elem? launch (count * g + w)) ≡ some (returned_word q m count passage w)

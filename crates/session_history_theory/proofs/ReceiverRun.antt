@@ -11,18 +11,17 @@ use borrow.Author.Tests.{eqb-true, lt-ltb}
 use Rattle.code_theory.specs.Nearest.{is_readable, near_message}
 use Rattle.code_theory.specs.Question.{answer, after}
 use Rattle.session_receiver.specs.declared.Receiver.{Receiver}
-use Rattle.session_reference.specs.declared.Reference.{Reference}
-use Rattle.session_reference.specs.declared.Reference.TheVariants.{Held, Missing}
+use Rattle.std.specs.Prelude.{Option, Some, None}
 use Rattle.session_receiver.specs.Receiving.{is_below, sound_receiver, receive_refusal, receive_constant, zone_symbol, receive_delivery, delivery_values, receive_answer, receive_message, next_receiver, after_receive, receive_session, miss_refusal, miss_answer, miss_session}
 use Rattle.session_receiver.proofs.SoundLaws.{ReceiveYes, miss_yes, receive_yes, receive_doubtful, constant_below, receiver_next}
 use Rattle.session_history_theory.specs.Calls.{if_accepted, ReceiverCall, receive, miss, ReceiverSlot, read, doubtful, missed, if_received, receiver_call, receiver_slot}
 use Rattle.session_history_theory.proofs.Run.{Step}
 
 -- the reference that a slot leaves
-unfoldable pub reference_after : ℕ → ℕ → ReceiverSlot → Reference
-reference_after q m (read word message values) = Held (receive_constant q m word)
-reference_after q m (doubtful word) = Missing
-reference_after q m missed = Missing
+unfoldable pub reference_after : ℕ → ℕ → ReceiverSlot → Option ℕ
+reference_after q m (read word message values) = Some (receive_constant q m word)
+reference_after q m (doubtful word) = None
+reference_after q m missed = None
 
 -- the session that a slot leaves
 unfoldable pub next_slot : Receiver → ReceiverSlot → Receiver
@@ -48,7 +47,7 @@ receive_step s message word = go (receive_refusal s message word) refl
     place = set (near_message s.q s.m word) 0 (zone_symbol (receive_delivery s word).zone)
 
     session : ℕ → Receiver
-    session n = after_receive n (next_receiver s (Held (receive_constant s.q s.m word))) (next_receiver s Missing) s
+    session n = after_receive n (next_receiver s (Some (receive_constant s.q s.m word))) (next_receiver s None) s
 
     slot : ℕ → List ReceiverSlot
     slot n = if_received word (after n place message) (answer n (delivery_values (receive_delivery s word)))
@@ -72,8 +71,8 @@ unfolding receiver_call receiver_slot miss_session miss_answer next_slot referen
 miss_step s = go (miss_refusal s) refl
   where
     go : (n : ℕ) → miss_refusal s ≡ n
-        → ((after n (next_receiver s Missing) s ≡ s) × (if_accepted missed (answer n []) ≡ []))
-        ⊎ ((z : ReceiverSlot) × (after n (next_receiver s Missing) s ≡ next_slot s z) × (if_accepted missed (answer n []) ≡ z ∷ []) × ReceivedBy s z)
+        → ((after n (next_receiver s None) s ≡ s) × (if_accepted missed (answer n []) ≡ []))
+        ⊎ ((z : ReceiverSlot) × (after n (next_receiver s None) s ≡ next_slot s z) × (if_accepted missed (answer n []) ≡ z ∷ []) × ReceivedBy s z)
     go zero e = inr (missed, refl, refl, record { yes = miss_yes s e; heard = tt })
     go (suc n) e = inl (refl, refl)
 

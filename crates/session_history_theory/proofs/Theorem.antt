@@ -5,8 +5,12 @@ use mathlib.Core.Logic.{◌↔◌}
 use mathlib.Core.Bool.{true, false, true≢false}
 use mathlib.Core.List.{List, [], ◌∷◌}
 use mathlib.Core.Option.{Option, none, some, some-injective, none-ne-some}
+use Rattle.std.specs.Prelude.{Some, None}
+use Rattle.std.specs.Prelude as std
+use Rattle.std.proofs.lemmas.Option.{none-some}
 use native.Mathlib.Nat.{zero-add}
 use native.Mathlib.Omega.{arith}
+use borrow.Author.Tests.{lt-ltb}
 use lib.ListN.{length, set, get_elem?}
 use lib.Seq.{get_or-set_same, get_or-set_other}
 use Rattle.code_theory.specs.Sum.{at}
@@ -21,9 +25,6 @@ use Rattle.code_theory.proofs.NearestLaws.{readable, read_symbols}
 use Rattle.session_sender.specs.declared.Sender.{Sender}
 use Rattle.session_receiver.specs.declared.Receiver.{Receiver}
 use Rattle.session_receiver.specs.declared.Delivery.{Delivery}
-use Rattle.session_reference.specs.declared.Reference.{Reference}
-use Rattle.session_reference.specs.declared.Reference.TheVariants.{Missing}
-use Rattle.session_reference.specs.declared.Zone.TheVariants.{Known, Unknown}
 use Rattle.session_slot.specs.Slot.{slots, slot_time}
 use Rattle.session_sender.specs.Sending.{new_sender, open_sender, send_refusal, send_constant}
 use Rattle.session_receiver.specs.Receiving.{new_receiver, open_receiver, is_below, is_missing, receive_refusal, miss_refusal, receive_constant, zone_from, zone_symbol, receive_delivery, delivery_values, next_receiver}
@@ -51,7 +52,7 @@ sent_from q m n s x h b = record {
 }
 
 -- the slot of this word was read by a session of this q and m, with this reference and so many slots used
-pub record ReadFrom (q m : ℕ) (reference : Reference) (used : ℕ) (y buffer : List ℕ) (delivery : Delivery) : Type 0 where
+pub record ReadFrom (q m : ℕ) (reference : std.Option ℕ) (used : ℕ) (y buffer : List ℕ) (delivery : Delivery) : Type 0 where
   pub readable : is_readable q m y ≡ true
   pub message : buffer ≡ set (near_message q m y) 0 (zone_symbol delivery.zone)
   pub zone : delivery.zone ≡ zone_from q reference (receive_constant q m y)
@@ -74,7 +75,7 @@ read_from q m n s word message delivery h (r, e, v) =
     }
 
 -- what a slot read says in place 0
-read_place : (q m : ℕ) (reference : Reference) (used : ℕ) (word message : List ℕ) (delivery : Delivery) → ReadFrom q m reference used word message delivery
+read_place : (q m : ℕ) (reference : std.Option ℕ) (used : ℕ) (word message : List ℕ) (delivery : Delivery) → ReadFrom q m reference used word message delivery
     → at message 0 ≡ zone_symbol delivery.zone
 read_place q m reference used word message delivery f =
     ap (λ l. at l 0) f.message ∙ get_or-set_same (near_message q m word) 0 _ 0 (omega (arith, (read_symbols q m word f.readable).size))
@@ -84,9 +85,6 @@ earlier : {A : Type 0} (xs : List A) (i : ℕ) (a : A) → get_elem? xs (suc i) 
 earlier [] i a e = absurd (none-ne-some a e)
 earlier (x ∷ xs) zero a e = (x, refl)
 earlier (x ∷ xs) (suc i) a e = earlier xs i a e
-
-Known≢Unknown : (d : ℕ) → Known d ≡ Unknown → ⊥
-Known≢Unknown d e = let z : ◌≡◌ {A = ℕ} 0 1 = cc in omega arith
 
 module _ (q m t : ℕ) (hq : 0 < q) (x : SenderSlot) (last : ℕ) (f : SentFrom q m last x) (y : List ℕ) (light : 4 * altered q m t (at x.word) (at y) < 2 ^ m) where
   -- the constant that was sent, turned
@@ -133,7 +131,7 @@ module _ (q m : ℕ) (alphabet : is_alphabet q ≡ true) (variables : is_variabl
         is_q = refl;
         is_m = refl;
         used = refl;
-        sound = sender_sound _ (record { alphabet = alphabet; variables = variables; last = alphabet_positive q alphabet; used = omega arith; start = refl });
+        sound = sender_sound _ (record { alphabet = alphabet; variables = variables; below = lt-ltb 0 q (alphabet_positive q alphabet); used = omega arith; start = refl });
       }
 
   sender_at : (j : ℕ) (x : SenderSlot) → get_elem? strap j ≡ some x → SenderAt q m j (sender_before j)
@@ -164,7 +162,7 @@ module _ (q m : ℕ) (alphabet : is_alphabet q ≡ true) (variables : is_variabl
 
   new_receiver_at : ReceiverAt q m 0 (new_receiver q m)
   unfolding is_below is_missing
-  new_receiver_at = record { is_q = refl; is_m = refl; used = refl; sound = receiver_sound _ (record { alphabet = alphabet; variables = variables; reference = refl; used = omega arith; start = refl }) }
+  new_receiver_at = record { is_q = refl; is_m = refl; used = refl; sound = receiver_sound _ (record { alphabet = alphabet; variables = variables; below = refl; used = omega arith; start = refl }) }
 
   receiver_at : (j : ℕ) (z : ReceiverSlot) → get_elem? launch j ≡ some z → ReceiverAt q m j (receiver_before j)
   receiver_at j z e = rw zero-add at (chain_before receiver_call receiver_slot next_slot ReceivedBy (ReceiverAt q m) (receiver_keep q m) 0 (new_receiver q m) launch _ launch_chain new_receiver_at j z e)
@@ -194,29 +192,29 @@ module _ (q m : ℕ) (alphabet : is_alphabet q ≡ true) (variables : is_variabl
 
   -- the zone that a slot says, by the reference that it had
   launch_zone : (j : ℕ) (y message : List ℕ) (delivery : Delivery) → Accepted launch j y message delivery
-      → (reference : Reference) → (receiver_before j).reference ≡ reference → delivery.zone ≡ zone_from q reference (receive_constant q m y)
+      → (reference : std.Option ℕ) → (receiver_before j).reference ≡ reference → delivery.zone ≡ zone_from q reference (receive_constant q m y)
   launch_zone j y message delivery e reference h = (launch_read j y message delivery e).zone ∙ ap (λ r. zone_from q r (receive_constant q m y)) h
 
   zone_after : ZonesAfterRead q m launch
   unfolding reference_after zone_from
   zone_after i y message delivery e y' message' delivery' e' = launch_zone (suc i) y' message' delivery' e' _ (launch_reference i _ e)
 
-  no_reference_zone : (j : ℕ) (y message : List ℕ) (delivery : Delivery) → Accepted launch j y message delivery → delivery.zone ≡ Unknown → NoReference launch j
+  no_reference_zone : (j : ℕ) (y message : List ℕ) (delivery : Delivery) → Accepted launch j y message delivery → delivery.zone ≡ None → NoReference launch j
   no_reference_zone zero y message delivery e u = first
   no_reference_zone (suc i) y message delivery e u = let (z, f) = earlier launch i _ e in go z f
     where
       go : (z : ReceiverSlot) → get_elem? launch i ≡ some z → NoReference launch (suc i)
       go (read y₀ message₀ values) f =
           let (delivery₀, g) = launch_answer i y₀ message₀ values f in
-          absurd (Known≢Unknown _ (sym (zone_after i y₀ message₀ delivery₀ g y message delivery e) ∙ u))
+          absurd (none-some _ (sym u ∙ zone_after i y₀ message₀ delivery₀ g y message delivery e))
       go (doubtful word) f = after_doubtful i word f
       go missed f = after_missed i f
 
-  zone_no_reference : (j : ℕ) (y message : List ℕ) (delivery : Delivery) → Accepted launch j y message delivery → NoReference launch j → delivery.zone ≡ Unknown
+  zone_no_reference : (j : ℕ) (y message : List ℕ) (delivery : Delivery) → Accepted launch j y message delivery → NoReference launch j → delivery.zone ≡ None
   unfolding reference_after zone_from before
-  zone_no_reference j y message delivery e first = launch_zone 0 y message delivery e Missing refl
-  zone_no_reference j y message delivery e (after_missed i f) = launch_zone (suc i) y message delivery e Missing (launch_reference i _ f)
-  zone_no_reference j y message delivery e (after_doubtful i word f) = launch_zone (suc i) y message delivery e Missing (launch_reference i _ f)
+  zone_no_reference j y message delivery e first = launch_zone 0 y message delivery e None refl
+  zone_no_reference j y message delivery e (after_missed i f) = launch_zone (suc i) y message delivery e None (launch_reference i _ f)
+  zone_no_reference j y message delivery e (after_doubtful i word f) = launch_zone (suc i) y message delivery e None (launch_reference i _ f)
 
 module _ (q m t : ℕ) (alphabet : is_alphabet q ≡ true) (variables : is_variables m ≡ true) (sends : List Send) (calls : List ReceiverCall) where
   abbrev strap' : List SenderSlot
@@ -275,7 +273,7 @@ module _ (q m t : ℕ) (alphabet : is_alphabet q ≡ true) (variables : is_varia
       let d = at x'.message 0 in
       let c = (last_at i + at x.message 0) % q in
       let f = light_slot_sent (suc i) x' y' slot' in
-      let zone : delivery.zone ≡ Known (sub_mod q (receive_constant q m y') (receive_constant q m y)) =
+      let zone : delivery.zone ≡ Some (sub_mod q (receive_constant q m y') (receive_constant q m y)) =
       zone_after q m alphabet variables calls i y message₀ delivery₀ e₀ y' message delivery e in
       let new : receive_constant q m y' ≡ ((c + d) % q + t) % q =
       light_slot_constant (suc i) x' y' slot' ∙ ap (λ l. ((l + d) % q + t) % q) (strap_last q m alphabet variables sends i x slot.sent) in
@@ -315,7 +313,7 @@ module _ (q m t : ℕ) (alphabet : is_alphabet q ≡ true) (variables : is_varia
 
 -- WHOLE SESSIONS: for every q and m that the openings accept, every turn t, and every two lists of calls, refused ones anywhere,
 -- each list started from the session that its opening returned
-pub whole_sessions : (q m : ℕ) (sender : Sender) (receiver : Receiver) → open_sender q m ≡ some sender → open_receiver q m ≡ some receiver
+pub whole_sessions : (q m : ℕ) (sender : Sender) (receiver : Receiver) → open_sender q m ≡ Some sender → open_receiver q m ≡ Some receiver
     → (t : ℕ) → t < q → (sends : List Send) (calls : List ReceiverCall)
     → WholeSessions q m t (sender_slots sender sends) (receiver_slots receiver calls) (sender_after sender sends) (receiver_after receiver calls)
 whole_sessions q m sender receiver a b t l sends calls =
@@ -325,7 +323,7 @@ whole_sessions q m sender receiver a b t l sends calls =
     (from_openings q m t alphabet variables sends calls)
 
 -- every slot of the strap was sent by a session of this q and m, from some last constant
-pub strap_word : (q m : ℕ) (sender : Sender) → open_sender q m ≡ some sender → (sends : List Send) (j : ℕ) (x : SenderSlot)
+pub strap_word : (q m : ℕ) (sender : Sender) → open_sender q m ≡ Some sender → (sends : List Send) (j : ℕ) (x : SenderSlot)
     → get_elem? (sender_slots sender sends) j ≡ some x → (last : ℕ) × SentFrom q m last x
 strap_word q m sender a sends j x e =
     let (alphabet, variables, f) = sender_opened_lem q m sender a in

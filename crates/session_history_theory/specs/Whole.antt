@@ -1,5 +1,6 @@
 -- DEMAND 3 (docs/REQUIREMENTS.md: Whole sessions): what holds of two whole lists of calls, sentence by sentence.
-use Rattle.std.specs.Prelude.{ℕ, suc, ◌*◌, ◌^◌, ◌<◌, ◌≡◌, ◌≢◌, ◌↔◌, true, List, length}
+use Rattle.std.specs.Prelude.{ℕ, suc, ◌*◌, ◌^◌, ◌<◌, ◌≡◌, ◌≢◌, ◌↔◌, true, List, length, Some, None}
+-- the Option of `get_elem?`; the code's has Some and None
 use Rattle.std.proofs.Math.Option.{Option, none, some}
 use Rattle.std.proofs.Math.ListN.{get_elem?}
 use Rattle.code_theory.specs.Sum.{at}
@@ -9,7 +10,6 @@ use Rattle.code_theory.specs.Turn.{altered}
 use Rattle.session_sender.specs.declared.Sender.{Sender}
 use Rattle.session_receiver.specs.declared.Receiver.{Receiver}
 use Rattle.session_receiver.specs.declared.Delivery.{Delivery}
-use Rattle.session_reference.specs.declared.Zone.TheVariants.{Known, Unknown}
 use Rattle.session_slot.specs.Slot.{slots, slot_time}
 use Rattle.session_sender.specs.Sending.{sound_sender, send_refusal}
 use Rattle.session_receiver.specs.Receiving.{sound_receiver, receive_refusal, miss_refusal, receive_constant, zone_symbol, delivery_values}
@@ -50,7 +50,7 @@ abbrev pub ZonesAfterRead : ℕ → ℕ → List ReceiverSlot → Type 0
 ZonesAfterRead q m launch =
     (i : ℕ) (y message : List ℕ) (delivery : Delivery) → Accepted launch i y message delivery
     → (y' message' : List ℕ) (delivery' : Delivery) → Accepted launch (suc i) y' message' delivery'
-    → delivery'.zone ≡ Known (sub_mod q (receive_constant q m y') (receive_constant q m y))
+    → delivery'.zone ≡ Some (sub_mod q (receive_constant q m y') (receive_constant q m y))
 
 -- The slots of the strap and of the launch, under the turn t, and the sessions that the two lists end in.
 pub record WholeSessions (q m t : ℕ) (strap : List SenderSlot) (launch : List ReceiverSlot) (sender : Sender) (receiver : Receiver) : Type 0 where
@@ -67,7 +67,7 @@ pub record WholeSessions (q m t : ℕ) (strap : List SenderSlot) (launch : List 
       → (x' : SenderSlot) (y' : List ℕ) → LightSlot q m t strap launch (suc i) x' y' → (message : List ℕ) (delivery : Delivery) → Accepted launch (suc i) y' message delivery
       → at message 0 ≡ at x'.message 0
   -- An accepted receive says that there is no zone where it is slot 0 or the slot before it was missed or doubtful, and nowhere else.
-  pub no_zone : (j : ℕ) (y message : List ℕ) (delivery : Delivery) → Accepted launch j y message delivery → (delivery.zone ≡ Unknown) ↔ NoReference launch j
+  pub no_zone : (j : ℕ) (y message : List ℕ) (delivery : Delivery) → Accepted launch j y message delivery → (delivery.zone ≡ None) ↔ NoReference launch j
   -- After a slot that was read, however damaged, the zone is the one of Receiving.
   pub zone : ZonesAfterRead q m launch
   -- Receiving: the zone stands in place 0 of the message slice, and 0 where there is none.

@@ -8,7 +8,7 @@ use borrow.Author.Tests.{ne_eqb}
 use lib.Dec.{eqb}
 use Rattle.code_theory.specs.Question.{after}
 use Rattle.code_theory.proofs.QuestionLaws.{after_no}
-use Rattle.session_reference.specs.declared.Reference.TheVariants.{Held, Missing}
+use Rattle.std.specs.Prelude.{Some, None}
 use Rattle.session_receiver.specs.declared.Receiver.{Receiver}
 use Rattle.session_receiver.specs.Receiving.{receive_refusal, receive_constant, miss_refusal, next_receiver, after_receive, receive_session, miss_session}
 
@@ -37,7 +37,7 @@ pub receive_code : (s : Receiver) (message word : List ℕ) → SameCode s (rece
 unfolding receive_session next_receiver after_receive after
 receive_code s message word = by (eqb (receive_refusal s message word) 9) (receive_refusal s message word)
   where
-    by : (t : Bool) (n : ℕ) → SameCode s (cond t (next_receiver s Missing) (after n (next_receiver s (Held (receive_constant s.q s.m word))) s))
+    by : (t : Bool) (n : ℕ) → SameCode s (cond t (next_receiver s None) (after n (next_receiver s (Some (receive_constant s.q s.m word))) s))
     by true n = (refl, refl)
     by false zero = (refl, refl)
     by false (suc n) = (refl, refl)
@@ -46,6 +46,6 @@ pub miss_code : (s : Receiver) → SameCode s (miss_session s)
 unfolding miss_session next_receiver after
 miss_code s = by (miss_refusal s)
   where
-    by : (n : ℕ) → SameCode s (after n (next_receiver s Missing) s)
+    by : (n : ℕ) → SameCode s (after n (next_receiver s None) s)
     by zero = (refl, refl)
     by (suc n) = (refl, refl)

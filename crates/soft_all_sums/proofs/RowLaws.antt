@@ -1,9 +1,9 @@
 -- The votes at eight places of each coefficient from 2 on, put into rows, and the sums with them. Assumes nothing.
-use Prim.Native.Nat.{ℕ, zero, suc, ◌+◌, ◌*◌, ◌/◌, ◌%◌, ◌^◌, ◌≤◌, ◌<◌}
+use Prim.Native.Nat.{ℕ, min, zero, suc, ◌+◌, ◌-◌, ◌*◌, ◌/◌, ◌%◌, ◌^◌, ◌≤◌, ◌<◌}
 use mathlib.Core.Path.{◌≡◌, ap, ap₂, sym, ◌∙◌, refl}
 use mathlib.Core.Bool.{Bool, true, false}
-use mathlib.Core.List.{List, [], ◌∷◌, ◌++◌}
-use native.Mathlib.Nat.{zero-add, add-zero, not-suc-le-zero, le_of_suc-le-suc, div-div-eq-div-mul}
+use mathlib.Core.List.{List, [], ◌∷◌}
+use native.Mathlib.Nat.{not-suc-le-zero, le_of_suc-le-suc, div-div-eq-div-mul}
 use native.Mathlib.Omega.{arith}
 use borrow.Author.Count.{below_more}
 use borrow.Author.Tests.{leb-true, leb-false}
@@ -16,12 +16,13 @@ use Rattle.code_theory.specs.Internal.{nth_clear}
 use Rattle.soft_theory.specs.Numbers.{f32}
 use Rattle.soft_theory.specs.Complex.{Complex, sample, plus}
 use Rattle.soft_theory.specs.Soft.{vote_sums}
-use Rattle.soft_theory.proofs.SumsLaws.{votes_all}
+use Rattle.soft_theory.proofs.SumsLaws.{votes_all, within}
 use Rattle.soft_theory.specs.Internal.{votes_to}
 use Rattle.soft_vote_sums.specs.declared.Sums.{Sums}
+use Rattle.soft_all_sums.specs.declared.Row.{Row}
 use Rattle.soft_vote_sums.specs.Pair.{pair}
-use Rattle.soft_vote_sums.specs.Internal.{complex, Samples, vote_at}
-use Rattle.soft_all_sums.specs.Internal.{none, nones, zeros, held, in_row, Put, Rows, votes_of, sums_of, Past, SumsTo, Stored, AllSums}
+use Rattle.soft_vote_sums.specs.Internal.{complex, Sized, vote_at}
+use Rattle.soft_all_sums.specs.Internal.{none, nones, zeros, held, no_row, Holds, Rows, votes_of, sums_of, Past, SumsTo, Stored, AllSums}
 use Rattle.soft_vote_sums.proofs.Steps.{votes_none, vote_next, even_samples}
 
 -- ---- four consecutive places stand at four consecutive indices
@@ -39,53 +40,60 @@ near (suc (suc k)) b x h =
     moved i j r a c n o d e f g = omega (arith, d, e, f, g)
 
 -- eight places from 8 b on are votes of coefficient k
-pub block_room : (m k b : ℕ) (re im : List Float) (x : ℕ) → Samples m re im → k < m → b < length re / 16 → x < 8
+pub block_room : (m k b : ℕ) (re im : List Float) (x : ℕ) → Sized m re im → k < m → b < length re / 16 → x < 8
     → ((k < 8) × (8 * b + x / 4 * 4 < 128)) × (8 * b + x < length re / 2)
 block_room m k b re im x s h l t = omega (arith, s.high, s.reals, pow_mono {i = m} {j = 8} s.high)
 
 -- ---- one row
 module _ (re im : List Float) (k b : ℕ) where
-  pub put_none : (t : List Float) → length t ≡ 128 → Put re im k b t t 0
-  put_none t e = record { size = e; below = λ n l. refl; row = λ y l. absurd (not-suc-le-zero l) }
+  pub holds_none : (row : Row) → (length row.re ≡ 8) × (length row.im ≡ 8) → Holds re im k b row 0
+  holds_none row e = record { reals = e.0; imaginaries = e.1; each = λ y l. absurd (not-suc-le-zero l) }
 
-  pub put_next : (t u : List Float) (x : ℕ) (v w : Float) → k < 8 → x < 8 → Put re im k b t u x → complex v w ≡ vote_at re im k (8 * b + x)
-      → Put re im k b t (set (set u (16 * k + x) v) (16 * k + 8 + x) w) (x + 1)
-  put_next t u x v w h l d e = record {
-    size = length-set (set u (16 * k + x) v) (16 * k + 8 + x) w ∙ length-set u (16 * k + x) v ∙ d.size;
-    below = λ n m. other n (λ z. absurd (omega (arith, z))) (λ z. absurd (omega (arith, z))) ∙ d.below n m;
-    row = below_more (λ y. in_row (set (set u (16 * k + x) v) (16 * k + 8 + x) w) (16 * k) y ≡ vote_at re im k (8 * b + y)) x
-        (λ y m. ap₂ complex (other (16 * k + y) (λ z. absurd (omega (arith, z))) (λ z. absurd (omega (arith, z))))
-        (other (16 * k + 8 + y) (λ z. absurd (omega (arith, z))) (λ z. absurd (omega (arith, z)))) ∙ d.row y m)
-        (ap₂ complex (get_or-set_other (set u (16 * k + x) v) (16 * k + 8 + x) (16 * k + x) w _ (λ z. absurd (omega (arith, z))) ∙ get_or-set_same u (16 * k + x) v _ (omega (arith, d.size)))
-        (get_or-set_same (set u (16 * k + x) v) (16 * k + 8 + x) w _ (omega (arith, length-set u (16 * k + x) v, d.size))) ∙ e);
+  pub holds_next : (row : Row) (x : ℕ) (v w : Float) → x < 8 → Holds re im k b row x → complex v w ≡ vote_at re im k (8 * b + x)
+      → Holds re im k b (record { re = set row.re x v; im = set row.im x w }) (x + 1)
+  holds_next row x v w l d e = record {
+    reals = length-set row.re x v ∙ d.reals;
+    imaginaries = length-set row.im x w ∙ d.imaginaries;
+    each = below_more (λ y. complex (get_or (set row.re x v) y (f32.number 0)) (get_or (set row.im x w) y (f32.number 0)) ≡ vote_at re im k (8 * b + y)) x
+        (λ y m. ap₂ complex (get_or-set_other row.re x y v _ (λ z. absurd (omega (arith, z)))) (get_or-set_other row.im x y w _ (λ z. absurd (omega (arith, z)))) ∙ d.each y m)
+        (ap₂ complex (get_or-set_same row.re x v _ (omega (arith, d.reals))) (get_or-set_same row.im x w _ (omega (arith, d.imaginaries))) ∙ e);
   }
-    where
-      other : (n : ℕ) → (n ≡ 16 * k + x → ⊥) → (n ≡ 16 * k + 8 + x → ⊥) → get_or (set (set u (16 * k + x) v) (16 * k + 8 + x) w) n (f32.number 0) ≡ get_or u n (f32.number 0)
-      other n p q = get_or-set_other (set u (16 * k + x) v) (16 * k + 8 + x) n w _ q ∙ get_or-set_other u (16 * k + x) n v _ p
 
-  pub put_all : (t u : List Float) (x : ℕ) → x ≡ 8 → Put re im k b t u x → Put re im k b t u 8
-  put_all t u x e d = rw e at d
+  -- both parts have as many places
+  pub eight_pairs : (row : Row) (x : ℕ) → Holds re im k b row x → min (length row.re) (length row.im) ≡ 8
+  eight_pairs row x d = omega (arith, d.reals, d.imaginaries)
+
+  pub holds_all : (row : Row) (x : ℕ) → x ≡ 8 → Holds re im k b row x → Holds re im k b row 8
+  holds_all row x e d = rw e at d
 
 -- ---- all rows
 module _ (re im : List Float) (b : ℕ) where
-  pub rows_none : (t : List Float) → length t ≡ 128 → Rows re im b t 2
-  rows_none t e = record { size = e; each = λ l a h. absurd (omega arith) }
+  pub rows_none : (rows : List Row) → length rows ≡ 8 → Rows re im b rows 2
+  rows_none rows e = record { size = e; each = λ l a h. absurd (omega arith) }
 
-  pub rows_next : (k : ℕ) (t u : List Float) → Rows re im b t k → Put re im k b t u 8 → Rows re im b u (k + 1)
-  rows_next k t u r d = record {
-    size = d.size;
-    each = λ l a h. below_more (λ l. 2 ≤ l → (y : ℕ) → y < 8 → in_row u (16 * l) y ≡ vote_at re im l (8 * b + y)) k
-        (λ l h a y m. ap₂ complex (d.below (16 * l + y) (omega arith)) (d.below (16 * l + 8 + y) (omega arith)) ∙ r.each l a h y m)
-        (λ a y m. d.row y m) l h a;
+  pub rows_next : (k : ℕ) (rows : List Row) (row : Row) → k < 8 → Rows re im b rows k → Holds re im k b row 8 → Rows re im b (set rows k row) (k + 1)
+  rows_next k rows row h r d = record {
+    size = length-set rows k row ∙ r.size;
+    each = λ l a m. below_more (λ l. 2 ≤ l → Holds re im l b (get_or (set rows k row) l no_row) 8) k
+        (λ l m a. let e = get_or-set_other rows k l row no_row (λ z. absurd (omega (arith, z))) in rw e (r.each l a m))
+        (λ a. let e = get_or-set_same rows k row no_row (omega (arith, r.size)) in rw e d) l m a;
   }
 
-  pub rows_all : (k m : ℕ) (t : List Float) → k ≡ m → Rows re im b t k → Rows re im b t m
-  rows_all k m t e r = rw e at r
+  pub rows_all : (k m : ℕ) (rows : List Row) → k ≡ m → Rows re im b rows k → Rows re im b rows m
+  rows_all k m rows e r = rw e at r
+
+  -- the row that the code reads at l
+  pub row_at : (l m : ℕ) (rows : List Row) (d : Row) → Rows re im b rows m → 2 ≤ l → l < m → m ≤ 8 → Holds re im l b (get_or rows l d) 8
+  row_at l m rows d r a h e = let f = within rows l d no_row (omega (arith, r.size)) in rw f (r.each l a h)
 
 -- ---- the sums plus one vote of a row
-pub row_next : (re im : List Float) (k b x : ℕ) (s r z : Complex Float) → s ≡ votes_to f32 k (sample f32 re im) (8 * b + x) → z ≡ vote_at re im k (8 * b + x) → r ≡ plus f32 s z
-    → r ≡ votes_to f32 k (sample f32 re im) (8 * b + (x + 1))
-row_next re im k b x s r z e Z R = vote_next re im k (8 * b + x) s r z e Z R ∙ ap (votes_to f32 k (sample f32 re im)) (omega arith)
+pub row_next : (re im : List Float) (k b x y : ℕ) (s r z : Complex Float) → y ≡ x + 1 → s ≡ votes_of re im (8 * b + x) k → z ≡ vote_at re im k (8 * b + x)
+    → r ≡ plus f32 s z → r ≡ votes_of re im (8 * b + y) k
+unfolding votes_of
+row_next re im k b x y s r z g e Z R = vote_next re im k (8 * b + x) s r z e Z R ∙ ap (votes_to f32 k (sample f32 re im)) (omega (arith, g))
+
+pub row_end : (re im : List Float) (k b x : ℕ) (s : Complex Float) → x ≡ 8 → s ≡ votes_of re im (8 * b + x) k → s ≡ votes_of re im (8 * (b + 1)) k
+row_end re im k b x s g e = let f : 8 * b + x ≡ 8 * (b + 1) = omega (arith, g) in rw f at e
 
 -- ---- sums stored one after the other
 module _ (f : ℕ → Complex Float) (low : ℕ) (s : List Sums) where
@@ -117,13 +125,13 @@ held_is (x ∷ s) zero d h = refl
 held_is (x ∷ s) (suc l) d h = held_is s l d (le_of_suc-le-suc h)
 
 module _ (m : ℕ) (re im : List Float) where
-  -- the sums of the rows
-  pub sums_more : (b k : ℕ) (s u : List Sums) → k ≡ m → Past m s → Stored (votes_of re im (8 * (b + 1))) 2 s u k → SumsTo re im (8 * (b + 1)) u m
-  sums_more b k s u e p d =
-      let t = stored_all (votes_of re im (8 * (b + 1))) 2 s u k m e d in
+  -- the sums of each coefficient from low on, with more votes
+  pub sums_more : (low j k : ℕ) (s u : List Sums) → k ≡ m → Past m s → Stored (votes_of re im j) low s u k → SumsTo low re im j u m
+  sums_more low j k s u e p d =
+      let t = stored_all (votes_of re im j) low s u k m e d in
       record { rest = record { size = t.size; past = λ l h. t.rest l h ∙ p.past l h }; each = t.done }
 
-  pub sums_blocks : (b : ℕ) (s : List Sums) → Samples m re im → 4 ≤ m → b ≡ length re / 16 → SumsTo re im (8 * b) s m → SumsTo re im (length re / 2) s m
+  pub sums_blocks : (b : ℕ) (s : List Sums) → Sized m re im → 4 ≤ m → b ≡ length re / 16 → SumsTo 2 re im (8 * b) s m → SumsTo 2 re im (length re / 2) s m
   sums_blocks b s S h e d = let f : 8 * b ≡ length re / 2 = halves m h (e ∙ ap (λ n. n / 16) S.reals) ∙ ap (λ n. n / 2) (sym S.reals) in rw f at d
     where
       halves : (m : ℕ) → 4 ≤ m → b ≡ 2 ^ m / 16 → 8 * b ≡ 2 ^ m / 2
@@ -134,7 +142,7 @@ module _ (m : ℕ) (re im : List Float) where
       halves (suc (suc (suc (suc m)))) h e = omega arith
 
   -- all sums
-  pub all_both : (e : ℕ) (s u : List Sums) → e ≡ 2 → Samples m re im → SumsTo re im (length re / 2) s m → Stored (sums_of m re im) 0 s u e → AllSums m re im u
+  pub all_both : (e : ℕ) (s u : List Sums) → e ≡ 2 → Sized m re im → SumsTo 2 re im (length re / 2) s m → Stored (sums_of m re im) 0 s u e → AllSums m re im u
   unfolding sums_of votes_of
   all_both e s u E S t d = record {
     rest = record { size = d.size; past = λ l h. d.rest l (omega (arith, E, h, S.low)) ∙ t.rest.past l h };
@@ -147,6 +155,11 @@ module _ (m : ℕ) (re im : List Float) where
           ∙ votes_all f32 m l (length re / 2) (sample f32 re im) h (even_samples m re (length re / 2) S refl)
       each l h false c = d.done l (omega arith) (leb-false e l c)
 
+  -- all votes are half as many as the samples
+  pub all_few : (j : ℕ) (s : List Sums) → 2 * j ≡ 2 ^ m → SumsTo 0 re im j s m → AllSums m re im s
+  unfolding votes_of
+  all_few j s e t = record { rest = t.rest; each = λ l h. t.each l (omega arith) h ∙ votes_all f32 m l j (sample f32 re im) h e }
+
 -- ---- no sums
 rest_held : (n l : ℕ) → held (nones n) l ≡ pair none
 unfolding held nones
@@ -158,43 +171,15 @@ pub past_zero : (m : ℕ) (s : List Sums) → s ≡ zeros → Past m s
 unfolding nones
 past_zero m s e = rw e record { size = refl; past = λ l h. rest_held 8 l }
 
-pub sums_zero : (re im : List Float) (m : ℕ) (s : List Sums) → s ≡ zeros → SumsTo re im 0 s m
+pub sums_zero : (low : ℕ) (re im : List Float) (m : ℕ) (s : List Sums) → s ≡ zeros → SumsTo low re im 0 s m
 unfolding votes_of pair
-sums_zero re im m s e = record { rest = past_zero m s e; each = λ l a h. ap (λ t. held t l) e ∙ rest_held 8 l ∙ votes_none re im l }
-
--- ---- few samples: all sums at the front of the array
--- the sums of x are those that f gives from k on
-abbrev pub Are : List Sums → (ℕ → Complex Float) → ℕ → Type 0
-Are [] f k = Unit {0}
-Are (x ∷ s) f k = (pair x ≡ f k) × Are s f (suc k)
-
-front_held : (s : List Sums) (n k l : ℕ) (f : ℕ → Complex Float) → Are s f k → l < length s → held (s ++ nones n) l ≡ f (k + l)
-unfolding held
-front_held [] n k l f a h = absurd (not-suc-le-zero h)
-front_held (x ∷ s) n k zero f a h = a.0 ∙ ap f (sym (add-zero k))
-front_held (x ∷ s) n k (suc l) f a h = front_held s n (suc k) l f a.1 (le_of_suc-le-suc h) ∙ ap f (omega arith)
-
-front_past : (s : List Sums) (n l : ℕ) → length s ≤ l → held (s ++ nones n) l ≡ pair none
-unfolding held
-front_past [] n l h = rest_held n l
-front_past (x ∷ s) n zero h = absurd (not-suc-le-zero h)
-front_past (x ∷ s) n (suc l) h = front_past s n l (le_of_suc-le-suc h)
-
-pub front_all : (m n : ℕ) (re im : List Float) (s : List Sums) → length s ≡ m → length (s ++ nones n) ≡ 8 → Are s (sums_of m re im) 0 → AllSums m re im (s ++ nones n)
-unfolding sums_of
-front_all m n re im s e size a = record {
-  rest = record { size = size; past = λ l h. front_past s n l (omega (arith, e)) };
-  each = λ l h. front_held s n 0 l (sums_of m re im) a (omega (arith, e)) ∙ ap (sums_of m re im) (zero-add l);
-}
-
--- all votes are half as many as the samples
-pub votes_done : (m : ℕ) (re im : List Float) (k j : ℕ) (s : Complex Float) → k < m → s ≡ votes_of re im j k → 2 * j ≡ 2 ^ m → s ≡ sums_of m re im k
-unfolding votes_of sums_of
-votes_done m re im k j s h e f = e ∙ votes_all f32 m k j (sample f32 re im) h f
+sums_zero low re im m s e = record { rest = past_zero m s e; each = λ l a h. ap (λ t. held t l) e ∙ rest_held 8 l ∙ votes_none re im l }
 
 -- ---- for each m
-pub samples_by : (m n : ℕ) (re im : List Float) → m ≡ n → Samples m re im → Samples n re im
-samples_by m n re im e s = rw e at s
+-- half of all samples
+pub half_places : (m n p : ℕ) → m ≡ n → 1 ≤ n → p ≡ 2 ^ (n - 1) → 2 * p ≡ 2 ^ m
+half_places m zero p e h f = absurd (not-suc-le-zero h)
+half_places m (suc n) p e h f = let g : suc n - 1 ≡ n = omega arith in rw e (omega (arith, f, ap (λ k. 2 ^ k) g))
 
 pub all_of : (n m : ℕ) (re im : List Float) (s : List Sums) → n ≡ m → AllSums n re im s → AllSums m re im s
 all_of n m re im s e a = rw e at a

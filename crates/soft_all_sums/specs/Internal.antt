@@ -7,6 +7,7 @@ use Rattle.soft_theory.specs.Complex.{Complex, sample}
 use Rattle.soft_theory.specs.Soft.{vote_sums}
 use Rattle.soft_theory.specs.Internal.{votes_to}
 use Rattle.soft_vote_sums.specs.declared.Sums.{Sums}
+use Rattle.soft_all_sums.specs.declared.Row.{Row}
 use Rattle.soft_vote_sums.specs.Pair.{pair}
 use Rattle.soft_vote_sums.specs.Internal.{complex, vote_at}
 
@@ -14,20 +15,24 @@ use Rattle.soft_vote_sums.specs.Internal.{complex, vote_at}
 abbrev pub none : Sums
 none = record { re = of_bits binary32 0; im = of_bits binary32 0 }
 
--- what a row of sixteen floats from place n on holds at x: a real part, and the imaginary part eight places later
-abbrev pub in_row : List Float → ℕ → ℕ → Complex Float
-in_row rows n x = complex (get_or rows (n + x) (f32.number 0)) (get_or rows (n + 8 + x) (f32.number 0))
+-- no terms
+unfoldable pub no_row : Row
+no_row = record { re = []; im = [] }
 
--- the row of coefficient k holds the first x of the eight votes from place 8 b on, and the rows before it are as they were
-pub record Put (re im : List Float) (k b : ℕ) (before after : List Float) (x : ℕ) : Type 0 where
-  pub size : length after ≡ 128
-  pub below : (n : ℕ) → n < 16 * k → get_or after n (f32.number 0) ≡ get_or before n (f32.number 0)
-  pub row : (y : ℕ) → y < x → in_row after (16 * k) y ≡ vote_at re im k (8 * b + y)
+-- what a row holds at x
+abbrev pub in_row : Row → ℕ → Complex Float
+in_row row x = complex (get_or row.re x (f32.number 0)) (get_or row.im x (f32.number 0))
+
+-- the row holds the first x of the eight votes of coefficient k from place 8 b on
+pub record Holds (re im : List Float) (k b : ℕ) (row : Row) (x : ℕ) : Type 0 where
+  pub reals : length row.re ≡ 8
+  pub imaginaries : length row.im ≡ 8
+  pub each : (y : ℕ) → y < x → in_row row y ≡ vote_at re im k (8 * b + y)
 
 -- the rows of the coefficients from 2 to k hold their eight votes
-pub record Rows (re im : List Float) (b : ℕ) (rows : List Float) (k : ℕ) : Type 0 where
-  pub size : length rows ≡ 128
-  pub each : (l : ℕ) → 2 ≤ l → l < k → (y : ℕ) → y < 8 → in_row rows (16 * l) y ≡ vote_at re im l (8 * b + y)
+pub record Rows (re im : List Float) (b : ℕ) (rows : List Row) (k : ℕ) : Type 0 where
+  pub size : length rows ≡ 8
+  pub each : (l : ℕ) → 2 ≤ l → l < k → Holds re im l b (get_or rows l no_row) 8
 
 -- the sums of the first j votes of coefficient l
 unfoldable pub votes_of : List Float → List Float → ℕ → ℕ → Complex Float
@@ -55,10 +60,10 @@ pub record Past (m : ℕ) (s : List Sums) : Type 0 where
   pub size : length s ≡ 8
   pub past : (l : ℕ) → m ≤ l → held s l ≡ pair none
 
--- s holds the sums of the first j votes of the coefficients from 2 to m
-pub record SumsTo (re im : List Float) (j : ℕ) (s : List Sums) (m : ℕ) : Type 0 where
+-- s holds the sums of the first j votes of the coefficients from low to m
+pub record SumsTo (low : ℕ) (re im : List Float) (j : ℕ) (s : List Sums) (m : ℕ) : Type 0 where
   pub rest : Past m s
-  pub each : (l : ℕ) → 2 ≤ l → l < m → held s l ≡ votes_of re im j l
+  pub each : (l : ℕ) → low ≤ l → l < m → held s l ≡ votes_of re im j l
 
 -- u holds f from place low to place k, and from there on what s holds
 pub record Stored (f : ℕ → Complex Float) (low : ℕ) (s u : List Sums) (k : ℕ) : Type 0 where

@@ -6,78 +6,90 @@ ghost use Rattle.soft_theory.specs.Numbers.{f32};
 ghost use Rattle.soft_theory.specs.Complex.{sample};
 ghost use Rattle.soft_theory.specs.Internal.{votes_to};
 ghost use Rattle.soft_vote_sums.specs.Pair.{pair};
-ghost use Rattle.soft_vote_sums.specs.Internal.{Samples};
-ghost use Rattle.soft_all_sums.specs.Internal.{Put, Rows, zeros, SumsTo, votes_of, sums_of, Stored, AllSums};
+ghost use Rattle.soft_all_sums.specs.Internal.{Holds, Rows, zeros, SumsTo, votes_of, sums_of, Stored, AllSums};
 
-use soft_vote_sums::Sums;
+use soft_vote_sums::{Samples, Sums};
 
-// The votes at eight places of coefficient k from 8 b on, put into its row. Four consecutive places stand at four consecutive indices.
-fn put_row(m: u32, k: u32, b: usize, re: &[f32], im: &[f32], rows: &mut [f32])
-    requires { Samples m re.now im.now × (2 ≤ k) × (k < m) × (b < length re.now / 16) × (length rows.old ≡ 128) }
-    ensures { Put re.now im.now k b rows.old rows.new 8 }
+// The terms of eight votes, the real and the imaginary parts apart, so that the compiler works out several at once.
+#[derive(Clone, Copy)]
+struct Row {
+    re: [f32; 8],
+    im: [f32; 8],
+}
+
+// No terms yet.
+fn no_terms() -> Row
+    ensures { (length result.re ≡ 8) × (length result.im ≡ 8) }
 {
-    let at = 16 * k as usize;
-    for x in 0..8usize {
-        let i = code_arith::nth_clear(k, 8 * b + x / 4 * 4) + x % 4;
-        let z = soft_vote_sums::vote_at(m, k, 8 * b + x, i, re, im);
-        rows[at + x] = z.re;
-        rows[at + 8 + x] = z.im;
+    Row {
+        re: [0.0; 8],
+        im: [0.0; 8],
     }
 }
 
-// The rows of all coefficients from 2 on.
-fn put_rows(m: u32, b: usize, re: &[f32], im: &[f32], rows: &mut [f32])
-    requires { Samples m re.now im.now × (b < length re.now / 16) × (length rows.old ≡ 128) }
-    ensures { Rows re.now im.now b rows.new m }
+// The votes at eight places of coefficient k from 8 b on. Four consecutive places stand at four consecutive indices. The loop counts, since
+// each index is made of the place's number.
+fn eight_votes(samples: Samples, k: u32, b: usize) -> Row
+    requires { (2 ≤ k) × (k < samples.m) × (b < length samples.re.now / 16) }
+    ensures { Holds samples.entry.re.now samples.entry.im.now k b result 8 }
 {
-    for k in 2..m {
-        put_row(m, k, b, re, im, rows);
+    let mut row = no_terms();
+    for x in 0..8usize {
+        let i = code_arith::nth_clear(k, 8 * b + x / 4 * 4) + x % 4;
+        let z = samples.vote_at(k, 8 * b + x, i);
+        row.re[x] = z.re;
+        row.im[x] = z.im;
+    }
+    row
+}
+
+// The rows of all coefficients from 2 on. Here and below the loops count, since the number k names the coefficient.
+fn put_rows(samples: Samples, b: usize, rows: &mut [Row])
+    requires { (b < length samples.re.now / 16) × (length rows.old ≡ 8) }
+    ensures { Rows samples.entry.re.now samples.entry.im.now b rows.new samples.entry.m }
+{
+    for k in 2..samples.m {
+        rows[k as usize] = eight_votes(samples, k, b);
     }
 }
 
 // The sums of coefficient k plus the eight votes of its row.
-fn add_row(m: u32, k: u32, b: usize, re: &[f32], im: &[f32], rows: &[f32], from: Sums) -> Sums
-    requires { (m ≤ 8) × (2 ≤ k) × (k < m) × Rows re.now im.now b rows.now m × (pair from ≡ votes_to f32 k (sample f32 re.now im.now) (8 * b)) }
-    ensures { pair result ≡ votes_to f32 k (sample f32 re.now im.now) (8 * (b + 1)) }
+fn add_row(samples: Samples, k: u32, b: usize, row: Row, from: Sums) -> Sums
+    requires { Holds samples.re.now samples.im.now k b row 8 × (pair from ≡ votes_of samples.re.now samples.im.now (8 * b) k) }
+    ensures { pair result ≡ votes_of samples.entry.re.now samples.entry.im.now (8 * (b + 1)) k }
 {
-    let at = 16 * k as usize;
     let mut s = from;
-    for x in 0..8usize {
-        let z = Sums {
-            re: soft_vote_sums::part(rows, at + x),
-            im: soft_vote_sums::part(rows, at + 8 + x),
-        };
-        s = soft_vote_sums::add(s, z);
+    for (re, im) in row.re.iter().zip(&row.im) {
+        s = s + Sums { re: *re, im: *im };
     }
     s
 }
 
 // The sums of all coefficients from 2 on, eight places of each at a time: the additions of one wait while others go on.
-fn high_sums(m: u32, re: &[f32], im: &[f32], rows: &mut [f32], from: [Sums; 8]) -> [Sums; 8]
-    requires { Samples m re.now im.now × (4 ≤ m) × (length rows.old ≡ 128) × SumsTo re.now im.now 0 from m }
-    ensures { SumsTo re.now im.now (length re.now / 2) result m }
+fn high_sums(samples: Samples) -> [Sums; 8]
+    requires { 4 ≤ samples.m }
+    ensures { SumsTo 2 samples.entry.re.now samples.entry.im.now (length samples.entry.re.now / 2) result samples.entry.m }
 {
-    let mut all = from;
-    for b in 0..re.len() / 16 {
-        put_rows(m, b, re, im, rows);
-        for k in 2..m {
+    let mut all = no_sums();
+    let mut rows = [no_terms(); 8];
+    for b in 0..samples.re.len() / 16 {
+        put_rows(samples, b, &mut rows);
+        for k in 2..samples.m {
             let i = k as usize;
-            let s = all[i];
-            all[i] = add_row(m, k, b, re, im, rows, s);
+            all[i] = add_row(samples, k, b, rows[i], all[i]);
         }
     }
     all
 }
 
 // The sums of the coefficients below end, one after the other, put before those that are there.
-fn low_sums(m: u32, end: u32, re: &[f32], im: &[f32], from: [Sums; 8]) -> [Sums; 8]
-    requires { Samples m re.now im.now × (end ≤ m) × (length from ≡ 8) }
-    ensures { Stored (sums_of m re.now im.now) 0 from result end }
+fn low_sums(samples: Samples, end: u32, from: [Sums; 8]) -> [Sums; 8]
+    requires { (end ≤ samples.m) × (length from ≡ 8) }
+    ensures { Stored (sums_of samples.entry.m samples.entry.re.now samples.entry.im.now) 0 from result end }
 {
     let mut all = from;
     for k in 0..end {
-        let i = k as usize;
-        all[i] = soft_vote_sums::vote_sums(m, k, re, im);
+        all[k as usize] = samples.vote_sums(k);
     }
     all
 }
@@ -86,8 +98,7 @@ fn low_sums(m: u32, end: u32, re: &[f32], im: &[f32], from: [Sums; 8]) -> [Sums;
 fn no_sums() -> [Sums; 8]
     ensures { result ≡ zeros }
 {
-    let none = Sums { re: 0.0, im: 0.0 };
-    [none; 8]
+    [Sums { re: 0.0, im: 0.0 }; 8]
 }
 
 // 2, the first coefficient that has a row, by a test that the compiler cannot settle: code made for just two coefficients is slower
@@ -100,72 +111,45 @@ fn low_end(m: u32) -> u32
 }
 
 // The sums of all coefficients where there are more than sixteen samples.
-fn many_sums(m: u32, re: &[f32], im: &[f32]) -> [Sums; 8]
-    requires { Samples m re.now im.now × (5 ≤ m) }
-    ensures { AllSums m re.now im.now result }
+fn many_sums(samples: Samples) -> [Sums; 8]
+    requires { 5 ≤ samples.m }
+    ensures { AllSums samples.entry.m samples.entry.re.now samples.entry.im.now result }
 {
-    let mut rows = [0.0f32; 128];
-    let high = high_sums(m, re, im, &mut rows, no_sums());
-    low_sums(m, low_end(m), re, im, high)
+    low_sums(samples, low_end(samples.m), high_sums(samples))
 }
 
 // The sums of coefficient k plus the vote at place j.
-fn more(m: u32, k: u32, j: usize, s: Sums, re: &[f32], im: &[f32]) -> Sums
-    requires { Samples m re.now im.now × (k < m) × (j < length re.now / 2) × (pair s ≡ votes_of re.now im.now j k) }
-    ensures { pair result ≡ votes_of re.now im.now (j + 1) k }
+fn more(samples: Samples, k: u32, j: usize, s: Sums) -> Sums
+    requires { (k < samples.m) × (j < length samples.re.now / 2) × (pair s ≡ votes_of samples.re.now samples.im.now j k) }
+    ensures { pair result ≡ votes_of samples.entry.re.now samples.entry.im.now (j + 1) k }
 {
-    soft_vote_sums::add(
-        s,
-        soft_vote_sums::vote_at(m, k, j, code_arith::nth_clear(k, j), re, im),
-    )
+    s + samples.vote_at(k, j, code_arith::nth_clear(k, j))
 }
 
-// The sums of the votes in sixteen samples, for all coefficients at once: the additions of one wait while others go on.
-fn sixteen_sums(re: &[f32], im: &[f32]) -> [Sums; 8]
-    requires { Samples 4 re.now im.now }
-    ensures { AllSums 4 re.now im.now result }
+// The sums of all coefficients, of which there are N, in one loop over the places: the additions of one wait while others go on. The
+// compiler writes both loops out, since it knows N.
+fn few_sums<const N: u32>(samples: Samples) -> [Sums; 8]
+    requires { (samples.m ≡ N) × (N ≤ 8) × (1 ≤ N) }
+    ensures { AllSums N samples.entry.re.now samples.entry.im.now result }
 {
-    let none = Sums { re: 0.0, im: 0.0 };
-    let mut a = none;
-    let mut b = none;
-    let mut c = none;
-    let mut d = none;
-    for j in 0..8usize {
-        a = more(4, 0, j, a, re, im);
-        b = more(4, 1, j, b, re, im);
-        c = more(4, 2, j, c, re, im);
-        d = more(4, 3, j, d, re, im);
+    let mut few = no_sums();
+    for j in 0..code_arith::pow2(N - 1) {
+        for k in 0..N {
+            let i = k as usize;
+            few[i] = more(samples, k, j, few[i]);
+        }
     }
-    [a, b, c, d, none, none, none, none]
-}
-
-// The sums of all three coefficients of eight samples, in one loop.
-fn eight_sums(re: &[f32], im: &[f32]) -> [Sums; 8]
-    requires { Samples 3 re.now im.now }
-    ensures { AllSums 3 re.now im.now result }
-{
-    let none = Sums { re: 0.0, im: 0.0 };
-    let mut a = none;
-    let mut b = none;
-    let mut c = none;
-    for j in 0..4usize {
-        a = more(3, 0, j, a, re, im);
-        b = more(3, 1, j, b, re, im);
-        c = more(3, 2, j, c, re, im);
-    }
-    [a, b, c, none, none, none, none, none]
+    few
 }
 
 // The sums of the votes for every coefficient of eight samples or more; those past the last are zeros.
-pub fn all_sums(m: u32, re: &[f32], im: &[f32]) -> [Sums; 8]
-    requires { Samples m re.now im.now × (3 ≤ m) }
-    ensures { AllSums m re.now im.now result }
+pub fn all_sums(samples: Samples) -> [Sums; 8]
+    requires { 3 ≤ samples.m }
+    ensures { AllSums samples.entry.m samples.entry.re.now samples.entry.im.now result }
 {
-    if m == 4 {
-        return sixteen_sums(re, im);
+    match samples.m {
+        3 => few_sums::<3>(samples),
+        4 => few_sums::<4>(samples),
+        _ => many_sums(samples),
     }
-    if m == 3 {
-        return eight_sums(re, im);
-    }
-    many_sums(m, re, im)
 }

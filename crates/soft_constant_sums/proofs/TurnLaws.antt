@@ -1,12 +1,13 @@
 -- The quarter turns as a word, and the samples turned back by them. Assumes nothing.
-use Prim.Native.Nat.{ℕ, zero, suc, ◌+◌, ◌*◌, ◌%◌, ◌^◌, ◌≤◌, ◌<◌}
+use Prim.Native.Nat.{ℕ, zero, suc, ◌+◌, ◌%◌, ◌^◌, ◌≤◌, ◌<◌}
 use mathlib.Core.Path.{◌≡◌, refl, ap, ap₂, sym, ◌∙◌}
 use mathlib.Core.Bool.{true}
 use mathlib.Core.List.{List, [], ◌∷◌}
 use native.Mathlib.Nat.{mod-lt, zero-add, le_of_suc-le-suc}
 use native.Mathlib.Omega.{arith}
 use lib.Bits.{bit_and, and_mask}
-use lib.ListN.{length, get_or}
+use lib.ListN.{length, get_or, take, length-take}
+use lib.Seq.{get_or-take}
 use lib.Pow.{pow_mono}
 use lib.Ieee.{Float, binary32, of_bits, neg, nan}
 use Rattle.code_theory.specs.Sum.{at, sum}
@@ -19,7 +20,7 @@ use Rattle.soft_theory.specs.Complex.{Complex, sample, turn_back, plus}
 use Rattle.soft_theory.specs.Soft.{constant_sums}
 use Rattle.soft_theory.proofs.SumsLaws.{sums_none, sums_next, back_to, back_all}
 use Rattle.soft_vote_sums.proofs.Steps.{zero_bits}
-use Rattle.soft_vote_sums.specs.Internal.{complex, Samples}
+use Rattle.soft_vote_sums.specs.Internal.{complex, Sized}
 use Rattle.soft_constant_sums.specs.Internal.{Coefficients, coefficients_in, Turns}
 
 -- ---- the turns are a word
@@ -49,14 +50,21 @@ turns_below k found t f i l = rw (f.each i l) (mod-lt _ (omega arith))
 
 -- ---- the samples turned back
 -- the four signed parts in a table
-pub turn_table : (t : ℕ) (x y : Float) → t < 4
-    → complex (get_or (x ∷ y ∷ neg x ∷ neg y ∷ []) t nan) (get_or (x ∷ y ∷ neg x ∷ neg y ∷ []) (bit_and (t + 1) 3) nan) ≡ turn_back f32 t (complex x y)
+pub turn_table : (t i : ℕ) (x y : Float) → i ≡ t → t < 4
+    → complex (get_or (x ∷ y ∷ neg x ∷ neg y ∷ []) i nan) (get_or (x ∷ y ∷ neg x ∷ neg y ∷ []) (bit_and (i + 1) 3) nan) ≡ turn_back f32 t (complex x y)
 unfolding turn_back
-turn_table zero x y h = refl
-turn_table (suc zero) x y h = refl
-turn_table (suc (suc zero)) x y h = refl
-turn_table (suc (suc (suc zero))) x y h = refl
-turn_table (suc (suc (suc (suc t)))) x y h = absurd (omega arith)
+turn_table t i x y e = rw e (go t)
+  where
+    go : (t : ℕ) → t < 4 → complex (get_or (x ∷ y ∷ neg x ∷ neg y ∷ []) t nan) (get_or (x ∷ y ∷ neg x ∷ neg y ∷ []) (bit_and (t + 1) 3) nan) ≡ turn_back f32 t (complex x y)
+    go zero h = refl
+    go (suc zero) h = refl
+    go (suc (suc zero)) h = refl
+    go (suc (suc (suc zero))) h = refl
+    go (suc (suc (suc (suc t)))) h = absurd (omega arith)
+
+-- the sums plus a sample that is turned back
+pub back_plus : (t : ℕ) (s r z y x : Complex Float) → r ≡ plus f32 s z → z ≡ turn_back f32 t y → y ≡ x → r ≡ plus f32 s (turn_back f32 t x)
+back_plus t s r z y x R Z Y = R ∙ ap (plus f32 s) (Z ∙ ap (turn_back f32 t) Y)
 
 module _ (m : ℕ) (c : ℕ → ℕ) (re im : List Float) where
   pub back_none : complex (of_bits binary32 0) (of_bits binary32 0) ≡ back_to f32 m c (sample f32 re im) 0
@@ -71,24 +79,17 @@ module _ (m : ℕ) (c : ℕ → ℕ) (re im : List Float) where
       ∙ ap₂ (plus f32) e (ap₂ (turn_back f32) f Z)
       ∙ sym (sums_next f32 i (λ i. turn_back f32 (linear m c i % 4) (sample f32 re im i)))
 
-  -- two samples more
-  pub back_more : (b t u : ℕ) (s r v z w : Complex Float) → s ≡ back_to f32 m c (sample f32 re im) (2 * b)
-      → t ≡ linear m c (2 * b) % 4 → z ≡ turn_back f32 t (sample f32 re im (2 * b)) → r ≡ plus f32 s z
-      → u ≡ linear m c (2 * b + 1) % 4 → w ≡ turn_back f32 u (sample f32 re im (2 * b + 1)) → v ≡ plus f32 r w
-      → v ≡ back_to f32 m c (sample f32 re im) (2 * (b + 1))
-  back_more b t u s r v z w e f Z R g W X =
-      back_next (2 * b + 1) u r v _ (back_next (2 * b) t s r _ e f refl (R ∙ ap (plus f32 s) Z)) g refl (X ∙ ap (plus f32 r) W)
-      ∙ ap (back_to f32 m c (sample f32 re im)) (omega arith)
-
   pub back_end : (i : ℕ) (s : Complex Float) → s ≡ back_to f32 m c (sample f32 re im) i → i ≡ 2 ^ m → s ≡ constant_sums f32 m c (sample f32 re im)
   back_end i s e f = e ∙ ap (back_to f32 m c (sample f32 re im)) f ∙ back_all f32 m c (sample f32 re im)
 
--- the turns at an index of the samples
-pub turn_room : (m : ℕ) (found turns : List ℕ) (re im : List Float) → Samples m re im → Turns m found turns → (i : ℕ) → i < length re
-    → (i < length turns) × (i < length re) × (i < length im) × (at turns i < 4)
-turn_room m found turns re im s t i h =
-    let l : i < 2 ^ m = omega (arith, s.reals) in
-    (omega (arith, t.size, pow_mono {i = m} {j = 8} s.high), h, omega (arith, s.reals, s.imaginaries), turns_below m found turns t i l)
+-- the turns as the code reads them: those of the samples, from the front
+pub turn_read : (m : ℕ) (found turns : List ℕ) (re im : List Float) → Sized m re im → Turns m found turns → (i : ℕ) → i < length (take (length re) turns)
+    → (i < length re) × (get_or (take (length re) turns) i 0 < 4) × (get_or (take (length re) turns) i 0 ≡ linear m (coefficients_in found) i % 4)
+turn_read m found turns re im s t i h =
+    let k : i < length re = omega (arith, h, length-take (length re) turns) in
+    let l : i < 2 ^ m = omega (arith, k, s.reals) in
+    let e = get_or-take (length re) turns i 0 k in
+    (k, rw e (turns_below m found turns t i l), e ∙ t.each i l)
 
 -- ---- four samples
 pub masked_below : (x : ℕ) → bit_and x 3 < 4

@@ -1,6 +1,7 @@
 -- The tests of the code on floats are those of the definitions. Assumes nothing.
 use Prim.Native.Nat.{ℕ}
 use mathlib.Core.Path.{◌≡◌, refl, ap, ap₂, sym, ◌∙◌}
+use Rattle.std.proofs.Common.{Some, None}
 use mathlib.Core.Bool.{Bool, true, false, not, ◌&&◌, cond}
 use borrow.Author.Tests.{not-true, not-false}
 use lib.IntN.{pos}
@@ -9,6 +10,7 @@ use Rattle.soft_theory.specs.Numbers.{f32}
 use Rattle.soft_theory.specs.Complex.{Complex}
 use Rattle.soft_theory.specs.Decision.{sure, unsure, magnitude, is_decisive, decide_by, decide}
 use Rattle.soft_vote_sums.proofs.Steps.{zero_bits}
+use Rattle.soft_decision.specs.Internal.{sure_symbol}
 
 -- the numbers that the code writes
 two_bits : of_bits binary32 1073741824 ≡ of_int binary32 (pos 2)
@@ -19,17 +21,18 @@ three_bits : of_bits binary32 1077936128 ≡ of_int binary32 (pos 3)
 unfolding of_bits of_int
 three_bits = refl
 
-pub magnitude_is : (x : Float) (b : Bool) → lt x (of_bits binary32 0) ≡ b → cond b (neg x) x ≡ magnitude f32 x
+pub magnitude_is : (x : Float) → cond (lt x (of_bits binary32 0)) (neg x) x ≡ magnitude f32 x
 unfolding magnitude
-magnitude_is x b e = ap (λ t. cond t (neg x) x) (sym e ∙ ap (lt x) zero_bits)
+magnitude_is x = ap (λ o. cond (lt x o) (neg x) x) zero_bits
 
 pub is_decisive_lem : (l s : Float) (b : Bool) → lt (of_bits binary32 0) l ≡ b
     → (b && le (mul binary32 (of_bits binary32 1077936128) s) (mul binary32 (of_bits binary32 1073741824) l)) ≡ is_decisive f32 l s
 unfolding is_decisive
 is_decisive_lem l s b e = ap₂ ◌&&◌ (sym e ∙ ap (λ t. lt t l) zero_bits) (ap₂ (λ x y. le (mul binary32 x s) (mul binary32 y l)) three_bits two_bits)
 
-pub by_sign : (x : Float) (a b : ℕ) (u : Bool) → lt (of_bits binary32 0) x ≡ u → cond u a b ≡ cond (f32.lt (f32.number 0) x) a b
-by_sign x a b u e = ap (λ t. cond t a b) (sym e ∙ ap (λ o. lt o x) zero_bits)
+-- the symbol by the sign of x
+by_sign : (x : Float) (a b : ℕ) → cond (lt (of_bits binary32 0) x) a b ≡ cond (f32.lt (f32.number 0) x) a b
+by_sign x a b = ap (λ o. cond (lt o x) a b) zero_bits
 
 -- the decision by the magnitudes x and y
 module _ (z : Complex Float) (x y : Float) (t : Bool) (X : x ≡ magnitude f32 z.re) (Y : y ≡ magnitude f32 z.im) (T : t ≡ is_decisive f32 (cond (lt x y) y x) (cond (lt x y) x y)) where
@@ -48,13 +51,39 @@ module _ (z : Complex Float) (x y : Float) (t : Bool) (X : x ≡ magnitude f32 z
       ordered true = ap₂ (λ a b. cond (is_decisive f32 a b) (sure (symbol_of true) z) (unsure z)) Y X
       ordered false = ap₂ (λ a b. cond (is_decisive f32 a b) (sure (symbol_of false) z) (unsure z)) X Y
 
-  pub by_unsure : not t ≡ true → unsure z ≡ decide f32 z
-  by_unsure e = ap (λ v. cond v (sure (symbol_of (lt x y)) z) (unsure z)) (sym (not-true t e)) ∙ by_test (lt x y) refl
+  pub by_unsure : not t ≡ true → None ≡ sure_symbol (decide f32 z)
+  unfolding sure_symbol
+  by_unsure e =
+      ap sure_symbol (ap (λ v. cond v (sure (symbol_of (lt x y)) z) (unsure z)) (sym (not-true t e)) ∙ by_test (lt x y) refl)
 
-  pub by_sure : not t ≡ false → (a b c : ℕ) → a ≡ cond (f32.lt (f32.number 0) z.re) 0 2 → b ≡ cond (f32.lt (f32.number 0) z.im) 1 3 → c ≡ cond (lt x y) b a
-      → sure c z ≡ decide f32 z
-  unfolding symbol_of
+  -- the symbols a by the real sum and b by the imaginary one, and the one that is picked
+  pub by_sure : not t ≡ false → (a b c : ℕ) → a ≡ cond (lt (of_bits binary32 0) z.re) 0 2 → b ≡ cond (lt (of_bits binary32 0) z.im) 1 3 → c ≡ cond (lt x y) b a
+      → Some c ≡ sure_symbol (decide f32 z)
+  unfolding symbol_of sure_symbol
   by_sure e a b c A B C =
-      ap (λ n. sure n z) (C ∙ ap₂ (cond (lt x y)) B A)
-      ∙ ap (λ v. cond v (sure (symbol_of (lt x y)) z) (unsure z)) (sym (not-false t e))
-      ∙ by_test (lt x y) refl
+      ap Some (C ∙ ap₂ (cond (lt x y)) (B ∙ by_sign z.im 1 3) (A ∙ by_sign z.re 0 2))
+      ∙ ap sure_symbol (ap (λ v. cond v (sure (symbol_of (lt x y)) z) (unsure z)) (sym (not-false t e)) ∙ by_test (lt x y) refl)
+
+-- the decision by the sums z hands them back
+module _ (z : Complex Float) where
+  pub told_sure : (k : ℕ) → Some k ≡ sure_symbol (decide f32 z) → sure k z ≡ decide f32 z
+  unfolding decide decide_by sure_symbol
+  told_sure k e = go _ _ _ _ _ e
+    where
+      go : (a b c : Bool) (m n : ℕ) → Some k ≡ sure_symbol (cond a (cond b (sure m z) (unsure z)) (cond c (sure n z) (unsure z)))
+          → sure k z ≡ cond a (cond b (sure m z) (unsure z)) (cond c (sure n z) (unsure z))
+      go true true c m n e = cc
+      go true false c m n e = cc
+      go false b true m n e = cc
+      go false b false m n e = cc
+
+  pub told_unsure : None ≡ sure_symbol (decide f32 z) → unsure z ≡ decide f32 z
+  unfolding decide decide_by sure_symbol
+  told_unsure e = go _ _ _ _ _ e
+    where
+      go : (a b c : Bool) (m n : ℕ) → None ≡ sure_symbol (cond a (cond b (sure m z) (unsure z)) (cond c (sure n z) (unsure z)))
+          → unsure z ≡ cond a (cond b (sure m z) (unsure z)) (cond c (sure n z) (unsure z))
+      go true true c m n e = cc
+      go true false c m n e = refl
+      go false b true m n e = cc
+      go false b false m n e = refl

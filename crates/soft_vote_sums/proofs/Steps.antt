@@ -14,9 +14,10 @@ use Rattle.code_theory.proofs.IndexLaws.{nth_partner_lt}
 use Rattle.soft_theory.specs.Numbers.{f32}
 use Rattle.soft_theory.specs.Complex.{Complex, sample, term, plus}
 use Rattle.soft_theory.specs.Soft.{vote_sums}
-use Rattle.soft_theory.proofs.SumsLaws.{sums_none, sums_next, votes_all}
+use Rattle.soft_theory.proofs.SumsLaws.{sums_none, sums_next, votes_all, within}
 use Rattle.soft_theory.specs.Internal.{votes_to}
-use Rattle.soft_vote_sums.specs.Internal.{complex, Samples, vote_at}
+use Rattle.soft_vote_sums.specs.declared.Samples.{Samples}
+use Rattle.soft_vote_sums.specs.Internal.{complex, Sized, vote_at}
 
 -- the numbers that the code writes
 pub zero_bits : of_bits binary32 0 ≡ of_int binary32 (pos 0)
@@ -29,7 +30,7 @@ unfolding nth_clear
 nth_small k j l = omega (arith, div-mul-le_self j (2 ^ k))
 
 -- vote j of coefficient k is one of the 128 at most, at the index i with its partner step = 2 ^ k above
-module _ (m k j : ℕ) (re im : List Float) (s : Samples m re im) (h : k < m) (l : j < length re / 2) where
+module _ (m k j : ℕ) (re im : List Float) (s : Sized m re im) (h : k < m) (l : j < length re / 2) where
   pub few_votes : (k < 8) × (j < 128)
   few_votes = omega (arith, s.high, s.reals, pow_mono {i = m} {j = 8} s.high)
 
@@ -41,17 +42,21 @@ module _ (m k j : ℕ) (re im : List Float) (s : Samples m re im) (h : k < m) (l
       inside (suc m) h l = nth_partner_lt k m j (omega arith) (omega arith)
 
 -- two at a time, all samples
-pub even_samples : (m : ℕ) {im : List Float} (re : List Float) (b : ℕ) → Samples m re im → b ≡ length re / 2 → 2 * b ≡ 2 ^ m
+pub even_samples : (m : ℕ) {im : List Float} (re : List Float) (b : ℕ) → Sized m re im → b ≡ length re / 2 → 2 * b ≡ 2 ^ m
 even_samples m re b s e = go m s.low s.reals
   where
     go : (m : ℕ) → 2 ≤ m → length re ≡ 2 ^ m → 2 * b ≡ 2 ^ m
     go zero h f = absurd (omega arith)
     go (suc m) h f = omega (arith, e, f)
 
--- what the code read at i is the sample at i
-pub sample_is : (re im : List Float) (i : ℕ) (x y : Float) → x ≡ get_or re i (of_int binary32 (pos 0)) → y ≡ get_or im i (of_int binary32 (pos 0)) → complex x y ≡ sample f32 re im i
+-- the samples as their ghost fields have them
+pub sized : (s : Samples) → Sized s.m s.re.now s.im.now
+sized s = record { low = s.low; high = s.high; reals = s.reals; imaginaries = s.imaginaries }
+
+-- what the code reads at i is the sample at i: within a list no default is read
+pub sample_at : (re im : List Float) (i : ℕ) (d e : Float) → (i < length re) × (i < length im) → complex (get_or re i d) (get_or im i e) ≡ sample f32 re im i
 unfolding sample
-sample_is re im i x y e f = ap₂ complex e f
+sample_at re im i d e h = ap₂ complex (within re i d _ h.0) (within im i e _ h.1)
 
 pub votes_none : (re im : List Float) (k : ℕ) → complex (of_bits binary32 0) (of_bits binary32 0) ≡ votes_to f32 k (sample f32 re im) 0
 unfolding votes_to
@@ -81,15 +86,15 @@ unfolding sample
 onward_sample re im step i = ap₂ complex (onward_at re step i _) (onward_at im step i _)
 
 -- the step is within both slices
-pub step_room : (m k step : ℕ) (re im : List Float) → Samples m re im → k < m → step ≡ 2 ^ k → (step ≤ length re) × (step ≤ length im) × (step ≤ 256)
+pub step_room : (m k step : ℕ) (re im : List Float) → Sized m re im → k < m → step ≡ 2 ^ k → (step ≤ length re) × (step ≤ length im) × (step ≤ 256)
 step_room m k step re im s h g = omega (arith, g, s.high, s.reals, s.imaginaries, pow_mono {i = k} {j = m} (omega arith), pow_mono {i = m} {j = 8} s.high)
 
--- the index of vote j is within both slices, and within those that start at the step
-pub onward_rooms : (m k j : ℕ) (re im : List Float) → Samples m re im → k < m → j < length re / 2 → (i step : ℕ) → i ≡ nth_clear k j → step ≡ 2 ^ k
-    → (i < length re) × (i < length im) × (i < length (onward re step)) × (i < length (onward im step))
+-- the index of vote j is within the slices, and within those that start at the step
+pub onward_rooms : (m k j : ℕ) (re im : List Float) → Sized m re im → k < m → j < length re / 2 → (i step : ℕ) → i ≡ nth_clear k j → step ≡ 2 ^ k
+    → (i < length re) × (i < length (onward re step)) × (i < length (onward im step))
 onward_rooms m k j re im s h l i step e g =
     let r = partner_room m k j re im s h l i step e g in
-    (omega (arith, r), omega (arith, r), onward_room re step i r.0, onward_room im step i r.1)
+    (omega (arith, r), onward_room re step i r.0, onward_room im step i r.1)
 
 -- the vote at place j, with the partner from the slices that start at the step
 pub onward_vote : (re im : List Float) (k j i step : ℕ) (r : Complex Float) → i ≡ nth_clear k j → step ≡ 2 ^ k
@@ -113,7 +118,7 @@ votes_next re im k b s r t z w e Z R W T =
     ∙ ap (votes_to f32 k (sample f32 re im)) (omega arith)
 
 -- all votes: two for every four samples
-pub votes_end : (re im : List Float) (m k b : ℕ) (s : Complex Float) → Samples m re im → k < m → s ≡ votes_to f32 k (sample f32 re im) (2 * b) → b ≡ length re / 4
+pub votes_end : (re im : List Float) (m k b : ℕ) (s : Complex Float) → Sized m re im → k < m → s ≡ votes_to f32 k (sample f32 re im) (2 * b) → b ≡ length re / 4
     → s ≡ vote_sums f32 m k (sample f32 re im)
 votes_end re im m k b s S h e f = e ∙ votes_all f32 m k (2 * b) (sample f32 re im) h (fours m S.low (f ∙ ap (λ n. n / 4) S.reals))
   where

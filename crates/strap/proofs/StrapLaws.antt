@@ -1,16 +1,15 @@
 -- Packing and unpacking undo each other. Assumes nothing.
 use Prim.Native.Nat.{ℕ, ◌+◌, ◌*◌, ◌/◌, ◌%◌, ◌≤◌, ◌<◌}
 use mathlib.Core.Path.{◌≡◌, refl, ap, sym, ◌∙◌}
-use mathlib.Core.Bool.{Bool}
 use mathlib.Core.List.{List, [], ◌∷◌}
 use native.Mathlib.Nat.{div-div-eq-div-mul}
 use native.Mathlib.Omega.{arith}
-use borrow.Author.Tests.{lt-ltb, le-leb, lt-leb, leb-true}
+use borrow.Author.Tests.{lt-ltb, le-leb, leb-true}
 use lib.Dec.{leb}
-use lib.ListN.{length, set}
+use lib.ListN.{length}
 use Rattle.code_theory.specs.Sum.{at}
 use Rattle.code_theory.specs.Question.{ask, is_message_size, all_below, accepted}
-use Rattle.code_theory.proofs.QuestionLaws.{ask_yes, message_size, message_yes, message_no, all_below_lem, answer_yes, after_yes}
+use Rattle.code_theory.proofs.QuestionLaws.{ask_yes, message_size, message_yes, all_below_lem, answer_yes, after_yes}
 use Rattle.strap.specs.Strap.{base_four, strap_message, rate_of, zone_of, is_zone, pack_refusal, pack_answer, pack_message, unpack_refusal, unpack_answer}
 
 -- a list of five by its elements
@@ -23,17 +22,10 @@ five (a ∷ b ∷ c ∷ d ∷ []) e = absurd (omega arith)
 five (a ∷ b ∷ c ∷ d ∷ f ∷ []) e = refl
 five (a ∷ b ∷ c ∷ d ∷ f ∷ g ∷ t) e = absurd (omega arith)
 
--- the five stores of pack, on any message of its size
-pub stored : (t : List ℕ) (rate zone : ℕ) → length t ≡ 5
-    → set (set (set (set (set t 0 zone) 1 (rate % 4)) 2 (rate / 4 % 4)) 3 (rate / 16 % 4)) 4 (rate / 64 % 4) ≡ strap_message rate zone
+-- what pack stores
+pub stored : (rate zone : ℕ) → zone ∷ rate % 4 ∷ rate / 4 % 4 ∷ rate / 16 % 4 ∷ rate / 64 % 4 ∷ [] ≡ strap_message rate zone
 unfolding strap_message base_four
-stored [] rate zone e = absurd (omega arith)
-stored (a ∷ []) rate zone e = absurd (omega arith)
-stored (a ∷ b ∷ []) rate zone e = absurd (omega arith)
-stored (a ∷ b ∷ c ∷ []) rate zone e = absurd (omega arith)
-stored (a ∷ b ∷ c ∷ d ∷ []) rate zone e = absurd (omega arith)
-stored (a ∷ b ∷ c ∷ d ∷ f ∷ []) rate zone e = ap (λ x. zone ∷ x ∷ rate / 4 % 4 ∷ rate / 16 % 4 ∷ rate / 64 % 4 ∷ []) (omega arith)
-stored (a ∷ b ∷ c ∷ d ∷ f ∷ g ∷ t) rate zone e = absurd (omega arith)
+stored rate zone = ap (λ x. zone ∷ x ∷ rate / 4 % 4 ∷ rate / 16 % 4 ∷ rate / 64 % 4 ∷ []) (omega arith)
 
 -- a rate of one byte by its digits
 digits : (rate : ℕ) → rate < 256 → base_four 0 rate + 4 * base_four 1 rate + 16 * base_four 2 rate + 64 * base_four 3 rate ≡ rate
@@ -63,26 +55,9 @@ digits_of : (a b c d : ℕ) → a < 4 → b < 4 → c < 4 → d < 4 → Digits a
 unfolding base_four
 digits_of a b c d ha hb hc hd = record { first = omega arith; second = omega arith; third = omega arith; fourth = omega arith }
 
--- the number that the questions of pack and unpack give, test by test
-pub pack_5 : (t : List ℕ) (zone : ℕ) → (length t ≡ 5 → ⊥) → pack_refusal t zone ≡ 5
-unfolding pack_refusal ask
-pack_5 t zone d = rw (message_no 4 t d)
-
-pub pack_13 : (t : List ℕ) (zone : ℕ) → length t ≡ 5 → 3 < zone → pack_refusal t zone ≡ 13
-unfolding pack_refusal ask is_zone
-pack_13 t zone e h = rw (message_yes 4 t e, lt-leb zone 3 h)
-
 pub pack_0 : (t : List ℕ) (zone : ℕ) → length t ≡ 5 → zone ≤ 3 → pack_refusal t zone ≡ 0
 unfolding pack_refusal ask is_zone
 pack_0 t zone e h = rw (message_yes 4 t e, le-leb zone 3 h)
-
-pub unpack_5 : (t : List ℕ) → (length t ≡ 5 → ⊥) → unpack_refusal t ≡ 5
-unfolding unpack_refusal ask
-unpack_5 t d = rw (message_no 4 t d)
-
-pub unpack_6 : (t : List ℕ) (b : Bool) → length t ≡ 5 → b ≡ all_below 4 t → unpack_refusal t ≡ ask b 6 0
-unfolding unpack_refusal ask
-unpack_6 t b e h = rw (message_yes 4 t e, h)
 
 -- what a yes to each question says
 pub packable : (t : List ℕ) (zone : ℕ) → pack_refusal t zone ≡ 0 → (length t ≡ 5) × (zone ≤ 3)
@@ -111,14 +86,16 @@ pub record Coefficients (t : List ℕ) : Type 0 where
   pub third : at t 3 < 4
   pub fourth : at t 4 < 4
 
-pub coefficients : (t : List ℕ) → Unpackable t → Coefficients t
-coefficients t u = record {
-  size = u.size;
-  first = u.below 1 (omega arith);
-  second = u.below 2 (omega arith);
-  third = u.below 3 (omega arith);
-  fourth = u.below 4 (omega arith);
-}
+pub coefficients : (t : List ℕ) → unpack_refusal t ≡ 0 → Coefficients t
+coefficients t e =
+    let u = unpackable t e in
+    record {
+      size = u.size;
+      first = u.below 1 (omega arith);
+      second = u.below 2 (omega arith);
+      third = u.below 3 (omega arith);
+      fourth = u.below 4 (omega arith);
+    }
 
 message_unpacks : (rate zone : ℕ) → zone ≤ 3 → unpack_refusal (strap_message rate zone) ≡ 0
 unfolding unpack_refusal strap_message ask is_message_size all_below
@@ -140,12 +117,12 @@ unpack_packed message rate zone h e =
     ∙ answer_yes (unpack_refusal (strap_message rate zone)) _ (message_unpacks rate zone (packable message zone e).1)
     ∙ ap (λ r. accepted (r ∷ zone ∷ [])) (digits rate h)
 
-message_of_lem : (t : List ℕ) → Unpackable t → strap_message (rate_of t) (zone_of t) ≡ t
+message_of_lem : (t : List ℕ) → unpack_refusal t ≡ 0 → strap_message (rate_of t) (zone_of t) ≡ t
 unfolding rate_of zone_of strap_message
-message_of_lem t u =
-    let a = coefficients t u in
+message_of_lem t e =
+    let a = coefficients t e in
     let d = digits_of (at t 1) (at t 2) (at t 3) (at t 4) a.first a.second a.third a.fourth in
-    rw (d.first, d.second, d.third, d.fourth) (sym (five t u.size))
+    rw (d.first, d.second, d.third, d.fourth) (sym (five t a.size))
 
 zone_below : (t : List ℕ) → Unpackable t → zone_of t ≤ 3
 unfolding zone_of
@@ -158,4 +135,4 @@ unfolding pack_answer pack_message
 pack_unpacked message target e size =
     let u = unpackable message e in
     let n = pack_0 target (zone_of message) size (zone_below message u) in
-    (answer_yes (pack_refusal target (zone_of message)) [] n, after_yes _ _ _ n ∙ message_of_lem message u)
+    (answer_yes (pack_refusal target (zone_of message)) [] n, after_yes _ _ _ n ∙ message_of_lem message e)

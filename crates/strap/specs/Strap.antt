@@ -1,11 +1,8 @@
 -- What pack and unpack answer and leave, for every input (docs/REQUIREMENTS.md: strap packing, q = 4, m = 4).
 use Rattle.std.specs.Prelude.{ℕ, ◌+◌, ◌*◌, ◌/◌, ◌%◌, ◌^◌, Bool, List, [], ◌∷◌, leb}
 use Rattle.code_theory.specs.Sum.{at}
-use Rattle.code_theory.specs.Question.{ask, is_message_size, all_below, Answer, accepted, refused, answer, after}
-use Rattle.strap.specs.declared.Packed.{Packed}
-use Rattle.strap.specs.declared.Packed.TheVariants as P
-use Rattle.strap.specs.declared.Unpacked.{Unpacked}
-use Rattle.strap.specs.declared.Unpacked.TheVariants as U
+use Rattle.code_theory.specs.Question.{ask, is_message_size, all_below, Answer, answer, after}
+use Rattle.strap.specs.declared.Report.{Report}
 
 -- digit k of the rate in base 4, digit 0 the lowest: the coefficient a_k
 unfoldable pub base_four : ℕ → ℕ → ℕ
@@ -47,11 +44,6 @@ unpack_refusal message = ask (is_message_size 4 message) 5 (ask (all_below 4 mes
 unfoldable pub unpack_answer : List ℕ → Answer
 unpack_answer message = answer (unpack_refusal message) (rate_of message ∷ zone_of message ∷ [])
 
--- the number and the values of docs/REQUIREMENTS.md for each case of the enums
-unfoldable pub packed : Packed → Answer
-packed P.Filled = accepted []
-packed (P.Refused number) = refused number
-
-unfoldable pub unpacked : Unpacked → Answer
-unpacked (U.Report report) = accepted (report.rate ∷ report.zone ∷ [])
-unpacked (U.Refused number) = refused number
+-- the values of a report: rate and zone
+unfoldable pub report_values : Report → List ℕ
+report_values report = report.rate ∷ report.zone ∷ []

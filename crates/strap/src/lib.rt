@@ -2,62 +2,43 @@
 #![tactic(auto)]
 
 ghost use Rattle.std.specs.Prelude.{◌≡◌};
-ghost use Rattle.strap.specs.Strap.{rate_of, pack_refusal, pack_answer, pack_message, packed, unpack_refusal, unpack_answer, unpacked};
+ghost use Rattle.code_questions.specs.Internal.{refusal};
+ghost use Rattle.code_questions.specs.Refusal.{answered, no_values};
+ghost use Rattle.strap.specs.Strap.{rate_of, pack_refusal, pack_answer, pack_message, unpack_refusal, unpack_answer, report_values};
 
-// What pack answers.
-#[derive(Clone, Copy)]
-pub enum Packed {
-    Filled,
-    Refused(u32),
-}
+use code_questions::{Refusal, ask};
 
 // What a strap's message says.
-#[derive(Clone, Copy)]
+#[derive(Clone, Copy, Debug, PartialEq, Eq)]
 pub struct Report {
     pub rate: u8,
     pub zone: u8,
 }
 
-// What unpack answers.
-#[derive(Clone, Copy)]
-pub enum Unpacked {
-    Report(Report),
-    Refused(u32),
-}
-
 // Fills the message with the rate and the zone (docs/REQUIREMENTS.md: Pack).
-pub fn pack(message: &mut [u8], rate: u8, zone: u8) -> Packed
-    ensures answer { packed result ≡ pack_answer message.old zone }
+pub fn pack(message: &mut [u8], rate: u8, zone: u8) -> Result<(), Refusal>
+    ensures answer { answered no_values result ≡ pack_answer message.old zone }
     ensures buffer { message.new ≡ pack_message message.old rate zone }
 {
-    let number = pack_refusal(message, zone);
-    if number != 0 {
-        return Packed::Refused(number);
-    }
-    message[0] = zone;
-    message[1] = rate % 4;
-    message[2] = rate / 4 % 4;
-    message[3] = rate / 16 % 4;
-    message[4] = rate / 64 % 4;
-    Packed::Filled
+    ask_pack(message, zone)?;
+    message.copy_from_slice(&[zone, rate % 4, rate / 4 % 4, rate / 16 % 4, rate / 64 % 4]);
+    Ok(())
 }
 
 // What the message says of rate and zone (docs/REQUIREMENTS.md: Unpack).
-pub fn unpack(message: &[u8]) -> Unpacked
-    ensures { unpacked result ≡ unpack_answer message.now }
+pub fn unpack(message: &[u8]) -> Result<Report, Refusal>
+    ensures { answered report_values result ≡ unpack_answer message.now }
 {
-    let number = unpack_refusal(message);
-    if number != 0 {
-        return Unpacked::Refused(number);
-    }
-    let rate = rate_of(message);
-    Unpacked::Report(Report {
-        rate,
+    ask_unpack(message)?;
+    Ok(Report {
+        rate: rate_of(message),
         zone: message[0],
     })
 }
 
-// The rate of a message that holds one. It is summed from the highest coefficient on.
+// The rate of a message that holds one. It is summed from the highest coefficient on. Written out: a fold would need a clause that bounds
+// the sum at each step, and four terms show it.
+#[tactic(auto, unfolding(crate::specs::Strap::rate_of), using(crate::proofs::StrapLaws::coefficients))]
 pub fn rate_of(message: &[u8]) -> u8
     requires { unpack_refusal message.now ≡ 0 }
     ensures { result ≡ rate_of message.now }
@@ -66,29 +47,22 @@ pub fn rate_of(message: &[u8]) -> u8
 }
 
 // Questions 5 and 13.
-#[tactic(auto, unfolding(crate::specs::Strap::pack_refusal, crate::specs::Strap::is_zone, code_theory::specs::Question::ask, code_theory::specs::Question::is_message_size))]
-fn pack_refusal(message: &[u8], zone: u8) -> u32
-    ensures { result ≡ pack_refusal message.now zone }
+#[tactic(auto, unfolding(code_questions::specs::Internal::refusal, crate::specs::Strap::pack_refusal, crate::specs::Strap::is_zone, code_theory::specs::Question::ask, code_theory::specs::Question::is_message_size))]
+fn ask_pack(message: &[u8], zone: u8) -> Result<(), Refusal>
+    ensures { refusal result ≡ pack_refusal message.now zone }
 {
-    if message.len() != 5 {
-        return 5;
-    }
-    if zone > 3 {
-        return 13;
-    }
-    0
+    ask(message.len() == 5, Refusal::MessageSize)?;
+    ask(zone <= 3, Refusal::Zone)
 }
 
 // Questions 5 and 6.
-#[tactic(auto, unfolding(crate::specs::Strap::unpack_refusal, code_theory::specs::Question::ask, code_theory::specs::Question::is_message_size))]
-fn unpack_refusal(message: &[u8]) -> u32
-    ensures { result ≡ unpack_refusal message.now }
+#[tactic(auto, unfolding(code_questions::specs::Internal::refusal, crate::specs::Strap::unpack_refusal, code_theory::specs::Question::ask, code_theory::specs::Question::is_message_size))]
+fn ask_unpack(message: &[u8]) -> Result<(), Refusal>
+    ensures { refusal result ≡ unpack_refusal message.now }
 {
-    if message.len() != 5 {
-        return 5;
-    }
-    if !code_questions::all_below(4, message) {
-        return 6;
-    }
-    0
+    ask(message.len() == 5, Refusal::MessageSize)?;
+    ask(
+        code_questions::all_below(4, message),
+        Refusal::MessageSymbols,
+    )
 }

@@ -1,25 +1,21 @@
 -- The bytes of a number are read and written in parts. Assumes nothing.
-use Prim.Native.Nat.{ℕ, suc, ◌+◌, ◌*◌, ◌-◌, ◌/◌, ◌%◌, ◌^◌, ◌≤◌, ◌<◌}
-use mathlib.Core.Path.{◌≡◌, ap, ap₂, sym, ◌∙◌, subst}
-use mathlib.Core.List.{List}
+use Prim.Native.Nat.{ℕ, zero, suc, ◌+◌, ◌*◌, ◌-◌, ◌/◌, ◌%◌, ◌^◌, ◌≤◌, ◌<◌}
+use mathlib.Core.Path.{◌≡◌, refl, ap, ap₂, sym, ◌∙◌, subst}
+use mathlib.Core.List.{List, ◌++◌}
 use native.Mathlib.Decide.{dec_lt}
 use native.Mathlib.Omega.{arith}
-use native.Mathlib.Nat.{add_assoc, add_comm, mul-add, mul_comm, mul-le-mul_right, add-mul, one-mul, mod-eq_of_lt, div-one, add-zero}
-use lib.ListN.{length, set, length-set}
-use lib.Seq.{get_or-set_same, get_or-set_other}
+use native.Mathlib.Nat.{add_comm, mul-add, mul_comm, mul-le-mul_right, add-mul, one-mul, mod-eq_of_lt, div-one}
+use lib.ListN.{length, take, drop, length-append, length-take, length-drop, get_or-append}
+use borrow.Rule.Slice.PartMut.{put_mid}
+use Rattle.std.proofs.Math.Seq.{get_or-append_right}
+use Rattle.std.specs.List.{slice_range}
+use Rattle.std.specs.Int.{w32, w64, from_le_bytes, to_le_bytes}
+use Rattle.std.proofs.lemmas.List.{get_or-take, get_or-drop}
 use lib.Pow.{pow-add, pow_mono, high}
 use Rattle.code_theory.specs.Sum.{sum, at}
 use Rattle.swar_theory.specs.Internal.{digit, number}
 use Rattle.swar_theory.proofs.DigitLaws.{digit_under, digit_down, number_lt, number_digit, digit_add, add_lt}
-use Rattle.swar_bytes.specs.Internal.{Holds, Put}
-
--- a symbol below 256 is a number of one digit
-pub hold_one : (x : ℕ) (f : ℕ → ℕ) → x ≡ f 0 → x < 256 → Holds 1 x f
-unfolding digit
-hold_one x f e h = record { fits = h; each = λ l k. first l (omega arith) }
-  where
-    first : (l : ℕ) → l ≡ 0 → x / 2 ^ (8 * l) % 2 ^ 8 ≡ f l
-    first l z = rw z (omega (arith, e))
+use Rattle.swar_bytes.specs.Internal.{Holds, from, Put}
 
 module _ (n p x y : ℕ) (f : ℕ → ℕ) (a : Holds n x f) (b : Holds p y (λ l. f (n + l))) where
   join_fits : x + y * 2 ^ (8 * n) < 2 ^ (8 * (n + p))
@@ -46,12 +42,6 @@ module _ (n p x y : ℕ) (f : ℕ → ℕ) (a : Holds n x f) (b : Holds p y (λ 
     where
       below : y * 2 ^ (8 * n) < 18446744073709551616
       below = omega (arith, join_fits, pow_mono {i = 8 * (n + p)} {j = 64} (omega arith))
-
-pub hold_more : (n x y : ℕ) (f : ℕ → ℕ) → n < 8 → Holds n x f → y ≡ f n → y < 256 → Holds (n + 1) (x + y * 2 ^ (8 * n) % 18446744073709551616) f
-hold_more n x y f h a e b = hold_shifted n 1 x y f a (hold_one y (λ l. f (n + l)) (e ∙ ap f (sym (add-zero n))) b) (omega arith)
-
-pub sum_fits : (n x y : ℕ) (f : ℕ → ℕ) → n < 8 → Holds n x f → y ≡ f n → y < 256 → x + y * 2 ^ (8 * n) % 18446744073709551616 < 18446744073709551616
-sum_fits n x y f h a e b = omega (arith, (hold_more n x y f h a e b).fits, pow_mono {i = 8 * (n + 1)} {j = 64} (omega arith))
 
 -- the number that is made of n digits holds them
 pub hold_number : (n x : ℕ) (f : ℕ → ℕ) → x ≡ number 8 n f → ((l : ℕ) → l < n → f l < 256) → Holds n x f
@@ -82,33 +72,64 @@ hold_plus n x y f g a b h = record {
 pub hold_ext : (n x : ℕ) (f g : ℕ → ℕ) → ((l : ℕ) → l < n → f l ≡ g l) → Holds n x f → Holds n x g
 hold_ext n x f g e a = record { fits = a.fits; each = λ l k. a.each l k ∙ e l k }
 
--- a remainder by 256, written to place i, is the lowest digit
-pub put_one : (x y i : ℕ) (w : List ℕ) → i < length w → y ≡ x % 256 → Put 1 x i w (set w i y)
-unfolding digit
-put_one x y i w h e = record {
-  size = simp length-set;
-  new = λ l k. first l (omega arith);
-  below = λ j k. get_or-set_other w i j y 0 (λ z. absurd (omega (arith, z)));
-  above = λ j k. get_or-set_other w i j y 0 (λ z. absurd (omega (arith, z)));
-}
-  where
-    first : (l : ℕ) → l ≡ 0 → at (set w i y) (i + l) ≡ x / 2 ^ (8 * l) % 2 ^ 8
-    first l z =
-        let f : i + l ≡ i = omega arith in
-        rw (f, z) (get_or-set_same w i y 0 h ∙ e ∙ ap (λ a. a % 256) (sym (div-one x)))
+-- the library's number of the symbols from place i on
+module _ (s : List ℕ) (i : ℕ) (bytes : (l : ℕ) → at s l < 256) where
+  part_at : (n l : ℕ) → l < n → at (slice_range s i (i + n)) l ≡ at s (i + l)
+  part_at n l h = get_or-take (i + n - i) (drop i s) l 0 (omega arith) ∙ get_or-drop i s l 0
 
--- n digits, and p more written after them, are n + p digits written
-pub put_join : (n p x i : ℕ) (w v u : List ℕ) → Put n x i w v → Put p (x / 2 ^ (8 * n)) (i + n) v u → Put (n + p) x i w u
-put_join n p x i w v u a b = record {
-  size = b.size ∙ a.size;
-  new = λ l h. each l h (dec_lt l n);
-  below = λ j h. b.below j (omega arith) ∙ a.below j h;
-  above = λ j h. b.above j (omega arith) ∙ a.above j (omega arith);
-}
-  where
-    each : (l : ℕ) → l < n + p → Dec (l < n) → at u (i + l) ≡ digit 8 x l
-    each l h (yes k) = b.below (i + l) (omega arith) ∙ a.new l k
-    each l h (no k) =
-        let e : n + (l - n) ≡ l = omega arith in
-        ap (at u) (ap (λ z. i + z) (sym e) ∙ sym (add_assoc i n (l - n)))
-        ∙ b.new (l - n) (omega arith) ∙ digit_down 8 x n (l - n) ∙ ap (digit 8 x) e
+  part_below : (n l : ℕ) → l < n → at (slice_range s i (i + n)) l < 256
+  part_below n l h = omega (arith, part_at n l h, bytes (i + l))
+
+  pub read_four : (x : ℕ) → x ≡ from_le_bytes w32 (slice_range s i (i + 4)) → Holds 4 x (from s i)
+  unfolding number sum
+  read_four x e = hold_ext 4 x _ _ (part_at 4) (hold_number 4 x (at (slice_range s i (i + 4))) (omega (arith, e)) (part_below 4))
+
+  pub read_eight : (x : ℕ) → x ≡ from_le_bytes w64 (slice_range s i (i + 8)) → Holds 8 x (from s i)
+  unfolding number sum
+  read_eight x e = hold_ext 8 x _ _ (part_at 8) (hold_number 8 x (at (slice_range s i (i + 8))) (omega (arith, e)) (part_below 8))
+
+-- the library's bytes of a number are its digits
+pub bytes_of : (x l : ℕ) → l < 8 → at (to_le_bytes w64 x) l ≡ digit 8 x l
+unfolding digit
+bytes_of x zero h = ap (λ z. z % 256) (sym (div-one x))
+bytes_of x (suc zero) h = refl
+bytes_of x (suc (suc zero)) h = refl
+bytes_of x (suc (suc (suc zero))) h = refl
+bytes_of x (suc (suc (suc (suc zero)))) h = refl
+bytes_of x (suc (suc (suc (suc (suc zero))))) h = refl
+bytes_of x (suc (suc (suc (suc (suc (suc zero)))))) h = refl
+bytes_of x (suc (suc (suc (suc (suc (suc (suc zero))))))) h = refl
+bytes_of x (suc (suc (suc (suc (suc (suc (suc (suc l)))))))) h = absurd (omega arith)
+
+-- a part of n places that is written over with the lowest n of them
+module _ (n x i : ℕ) (w ys : List ℕ) (room : i + n ≤ length w) (few : n ≤ 8) (e : ys ≡ take n (to_le_bytes w64 x)) where
+  front : length (take i w) ≡ i
+  front = omega (arith, length-take i w)
+
+  middle : length ys ≡ n
+  middle = ap length e ∙ omega (arith, length-take n (to_le_bytes w64 x))
+
+  rest : List ℕ
+  rest = drop (i + n - i) (drop i w)
+
+  inside : (l : ℕ) → l < n → at (take i w ++ (ys ++ rest)) (i + l) ≡ digit 8 x l
+  inside l k =
+      get_or-append_right (take i w) (ys ++ rest) (i + l) 0 (omega (arith, front))
+      ∙ ap (at (ys ++ rest)) (omega (arith, front)) ∙ get_or-append ys rest 0 l (omega (arith, middle))
+      ∙ ap (λ z. at z l) e ∙ get_or-take n (to_le_bytes w64 x) l 0 k ∙ bytes_of x l (omega arith)
+
+  past : (j : ℕ) → i + n ≤ j → at (take i w ++ (ys ++ rest)) j ≡ at w j
+  unfolding rest
+  past j k =
+      get_or-append_right (take i w) (ys ++ rest) j 0 (omega (arith, front))
+      ∙ get_or-append_right ys rest (j - length (take i w)) 0 (omega (arith, front, middle))
+      ∙ get_or-drop (i + n - i) (drop i w) _ 0 ∙ get_or-drop i w _ 0 ∙ ap (at w) (omega (arith, front, middle))
+
+  pub put_part : Put n x i w (put_mid i (i + n - i) w ys)
+  unfolding rest
+  put_part = record {
+    size = omega (arith, front, middle, length-append (take i w) (ys ++ rest), length-append ys rest, length-drop (i + n - i) (drop i w), length-drop i w);
+    new = inside;
+    below = λ j k. get_or-append (take i w) (ys ++ rest) 0 j (omega (arith, front)) ∙ get_or-take i w j 0 k;
+    above = past;
+  }

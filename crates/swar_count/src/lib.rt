@@ -17,7 +17,9 @@ fn equal(d: u64, v: u64, c: u64) -> u64
     ((0xffff_ffff_ffff_ffff - ((d ^ (v * 0x1111_1111_1111_1111)) + 0x7777_7777_7777_7777)) >> 3) & c
 }
 
-// The sum of the lanes of p, where it is less than 15: 16 is 1 more than a multiple of 15, so p and the sum are equal modulo 15.
+// The sum of the lanes of p, where it is less than 15: 16 is 1 more than a multiple of 15, so p and the sum are equal modulo 15. What is
+// left fits a u32, so that `as` narrows it; try_from would have to be unwrapped.
+#[tactic(auto, using(crate::proofs::EqualLaws::total_is))]
 pub fn total(p: u64) -> u32
     requires { sum 16 (digit 4 p) < 15 }
     ensures { result ≡ sum 16 (digit 4 p) }
@@ -26,6 +28,7 @@ pub fn total(p: u64) -> u32
 }
 
 // How many of the lanes that c marks are v in x.
+#[tactic(auto, using(crate::proofs::EqualLaws::equal_sum))]
 pub fn marked_equal(x: u64, v: u64, c: u64) -> u32
     requires { LanesBelow 8 x × (v < 8) × Mask c × (marked_equal x v c < 15) }
     ensures { result ≡ marked_equal x v c }

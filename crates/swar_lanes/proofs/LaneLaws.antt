@@ -89,9 +89,6 @@ module _ (l u v e : ℕ) (hu : u < 18446744073709551616) (hv : v < 1844674407370
   right_lt : bit_and v (18446744073709551615 - e) < 2 ^ (4 * 16)
   right_lt = omega (arith, and_le_l v (18446744073709551615 - e))
 
-  pub blend_lt : bit_and u e + bit_and v (18446744073709551615 - e) < 18446744073709551616
-  blend_lt = add_lt 4 16 (bit_and u e) (bit_and v (18446744073709551615 - e)) left_lt right_lt blend_fits
-
   -- THE BLEND of two numbers has the lanes of u under the mask e, and those of v elsewhere
   pub blend_is : Blend l u v (bit_and u e + bit_and v (18446744073709551615 - e))
   blend_is = record {

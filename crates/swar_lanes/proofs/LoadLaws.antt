@@ -1,13 +1,10 @@
 -- Sixteen symbols stand in the lanes of a number. Assumes nothing.
 use Prim.Native.Nat.{ℕ, zero, suc, ◌+◌, ◌*◌, ◌/◌, ◌%◌, ◌^◌, ◌≤◌, ◌<◌}
-use mathlib.Core.Path.{◌≡◌, refl, ap, ap₂, sym, ◌∙◌, subst}
-use mathlib.Core.Logic.{◌⊎◌, inl, inr}
+use mathlib.Core.Path.{◌≡◌, refl, ap, ap₂, ◌∙◌}
 use mathlib.Core.List.{List}
 use native.Mathlib.Omega.{arith}
-use native.Mathlib.Nat.{not-suc-le-zero, le_of_suc-le-suc, mod-eq_of_lt, mul_comm, eq-or-lt_of_le}
-use native.Mathlib.Numerals.{add-one}
-use lib.ListN.{length, set, length-set}
-use lib.Seq.{get_or-set_same, get_or-set_other}
+use native.Mathlib.Nat.{mod-eq_of_lt, mul_comm}
+use lib.ListN.{length}
 use borrow.Author.Tests.{eqb-true}
 use lib.Dec.{eqb}
 use Rattle.code_theory.specs.Sum.{at, every}
@@ -16,7 +13,7 @@ use Rattle.code_theory.proofs.EveryLaws.{every_at}
 use Rattle.code_theory.proofs.WordLaws.{bounds}
 use Rattle.swar_theory.specs.Internal.{digit}
 use Rattle.swar_theory.proofs.DigitLaws.{digit_add, sub_le, digit_times, times_lt, digit_even, digit_odd}
-use Rattle.swar_lanes.specs.Internal.{offset, Low, Held, Loaded}
+use Rattle.swar_lanes.specs.Internal.{offset, Low, Held}
 
 -- every symbol of a received word fits a lane
 pub word_low : (q m : ℕ) (w : List ℕ) → WellFormed q m w → Low w
@@ -72,21 +69,3 @@ module _ (a b : ℕ) (ha : a < 18446744073709551616) (hb : b < 18446744073709551
             let value : (at w (i + l) + 16 * at w (i + 8 + l)) / 16 ≡ at w (i + 8 + l) = omega (arith, first l k, la l k) in
             ap (digit 4 (a + 16 * b)) g ∙ digit_odd 4 (a + 16 * b) l ∙ ap (λ z. z / 16) (byte l k) ∙ value ∙ ap (at w) place
         go l (suc (suc p)) e f = absurd (omega arith)
-
--- before the loop no number is loaded, and each pass of the loop loads the next one
-pub loaded_none : (w x : List ℕ) → Loaded w x x 0
-loaded_none w x = record { size = refl; packed = λ j l. absurd (not-suc-le-zero l); rest = λ j l. refl }
-
-pub loaded_next : (w x₀ x : List ℕ) (n r : ℕ) → Loaded w x₀ x n → n < length x → Held w (16 * n) r → Loaded w x₀ (set x n r) (n + 1)
-loaded_next w x₀ x n r h l e = record {
-  size = length-set x n r ∙ h.size;
-  packed = λ j k. go j (eq-or-lt_of_le (le_of_suc-le-suc (subst (λ z. j < z) (add-one n) k)));
-  rest = λ j k. get_or-set_other x n j r 0 (λ z. absurd (omega (arith, z))) ∙ h.rest j (omega arith);
-}
-  where
-    go : (j : ℕ) → (j ≡ n) ⊎ (j < n) → Held w (16 * j) (at (set x n r) j)
-    go j (inl z) t i = ap (λ y. digit 4 (at (set x n r) y) t) z ∙ ap (λ y. digit 4 y t) (get_or-set_same x n r 0 l) ∙ e t i ∙ ap (λ y. at w (16 * y + offset t)) (sym z)
-    go j (inr z) t i = ap (λ y. digit 4 y t) (get_or-set_other x n j r 0 (λ y. absurd (omega (arith, y)))) ∙ h.packed j z t i
-
-pub loaded_all : (w x₀ x : List ℕ) (n j : ℕ) → j ≡ n → Loaded w x₀ x j → Loaded w x₀ x n
-loaded_all w x₀ x n j e h = rw e at h

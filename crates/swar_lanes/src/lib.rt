@@ -80,14 +80,6 @@ pub fn votes_in(q: u64, k: u32, x: u64) -> u64
     less(q, partners(k, x), x) & clear(lane_bit(k))
 }
 
-// Number i of a packed word.
-fn number(x: &[u64; 16], i: usize) -> u64
-    requires { i < 16 }
-    ensures { result ≡ at x.now i }
-{
-    x[i]
-}
-
 // The sixteen votes for coefficient k, below 4, of the 32 places in a and b: those of a in the lanes of its places whose bit k is 0, those
 // of b in the other lanes.
 pub fn votes_within(q: u64, k: u32, a: u64, b: u64) -> u64
@@ -106,7 +98,7 @@ fn votes_across(q: u64, k: u32, j: usize, x: &[u64; 16]) -> u64
     ensures { BallotOf q k j x.now result × LanesBelow q result }
 {
     let i = code_arith::nth_clear(k - 4, j);
-    less(q, number(x, i + code_arith::pow2(k - 4)), number(x, i))
+    less(q, x[i + code_arith::pow2(k - 4)], x[i])
 }
 
 // Ballot j for coefficient k: sixteen of the votes, one in each lane.
@@ -115,17 +107,9 @@ pub fn ballot(q: u64, k: u32, j: usize, x: &[u64; 16]) -> u64
     ensures { BallotOf q k j x.now result × LanesBelow q result }
 {
     if k < 4 {
-        return votes_within(q, k, number(x, 2 * j), number(x, 2 * j + 1));
+        return votes_within(q, k, x[2 * j], x[2 * j + 1]);
     }
     votes_across(q, k, j, x)
-}
-
-// The lanes of number j of x minus those of number j of y, modulo q.
-pub fn differences(q: u64, j: usize, x: &[u64; 16], y: &[u64; 16]) -> u64
-    requires { (is_alphabet q ≡ true) × (j < 16) × Within q x.now × Within q y.now }
-    ensures { Lanes result (λ t. sub_mod q (digit 4 (at x.now j) t) (digit 4 (at y.now j) t)) }
-{
-    less(q, number(x, j), number(y, j))
 }
 
 // The sixteen symbols from place 16 j on: the first eight in the even lanes, the second eight in the odd ones.
@@ -141,7 +125,8 @@ pub fn load(word: &[u8], x: &mut [u64; 16])
     requires { (length word.now ≤ 256) × Low word.now × (length x.old ≡ 16) }
     ensures { Loaded word.now x.old x.new (length word.now / 16) }
 {
-    for j in 0..word.len() / 16 {
-        x[j] = sixteen(word, j);
+    let (packed, _) = x.split_at_mut(word.len() / 16);
+    for (j, number) in packed.iter_mut().enumerate() {
+        *number = sixteen(word, j);
     }
 }

@@ -1,4 +1,5 @@
-// Text put into a lent buffer, one piece after the other.
+// Text put into a lent buffer, one piece after the other. The place travels beside the buffer: a struct of both would have to say in each
+// contract that it still holds the buffer that was lent.
 #![tactic(auto)]
 
 ghost use Rattle.std.specs.Prelude.{◌≡◌, [], ◌∷◌, ◌+◌, ◌/◌, ◌%◌, ◌≤◌, ◌<◌, length};
@@ -11,10 +12,9 @@ pub fn put_text(text: &[u8], out: &mut [u8], at: usize) -> usize
     ensures place { result ≡ at + length text.now }
     ensures buffer { out.new ≡ put out.old at text.now }
 {
-    for i in 0..text.len() {
-        out[at + i] = text[i];
-    }
-    at + text.len()
+    let end = at + text.len();
+    out[at..end].copy_from_slice(text);
+    end
 }
 
 // The digit of a number below 10.
@@ -52,7 +52,7 @@ fn put_pair(n: u32, out: &mut [u8], at: usize)
     out[at + 1] = digit(n % 10);
 }
 
-// Puts the number's decimal digits, the last ones first.
+// Puts the number's decimal digits, the last ones first. The loop goes by what is left of the number, two digits a turn.
 fn put_decimal(n: u32, out: &mut [u8], at: usize) -> usize
     requires { at + length (decimal n) ≤ length out.old }
     ensures place { result ≡ at + length (decimal n) }
@@ -64,7 +64,7 @@ fn put_decimal(n: u32, out: &mut [u8], at: usize) -> usize
     while rest >= 100 {
         place -= 2;
         put_pair(rest % 100, out, place);
-        rest = rest / 100;
+        rest /= 100;
     }
     if rest < 10 {
         out[at] = digit(rest);

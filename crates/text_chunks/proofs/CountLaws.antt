@@ -7,7 +7,7 @@ use native.Mathlib.Nat.{zero-add, suc-add, sub-zero}
 use native.Mathlib.Omega.{arith}
 use borrow.Author.Tests.{eqb-false, lt-ltb, le-ltb}
 use lib.Dec.{eqb, ltb}
-use lib.ListN.{length, take, drop, length-append, drop_of_length-le}
+use lib.ListN.{length, take, length-append}
 use Rattle.text_lines.specs.Internal.{line_length}
 use Rattle.text_lines.proofs.EndingLaws.{line_step}
 use Rattle.text_chunks.specs.Chunks.{Reader, Progress, longer, step, step_text, fed, fed_text, fed_count}
@@ -28,11 +28,6 @@ module _ {S : Type 0} (R : Reader S) where
       by : (o : Bool) → cond o 0 (cond (ltb left R.room) 0 (suc (fed_count R (step R p b) (left - length (step_text R p b)) bytes))) ≡ 0
       by true = refl
       by false = rw (lt-ltb left R.room h)
-
-  -- none behind the last byte
-  pub count_end : (p : Progress S) (left : ℕ) (bytes : List ℕ) (i : ℕ) → length bytes ≤ i → fed_count R p left (drop i bytes) ≡ 0
-  unfolding fed_count
-  count_end p left bytes i h = ap (fed_count R p left) (drop_of_length-le bytes h)
 
   -- else one byte more
   pub count_next : (p : Progress S) (left b : ℕ) (bytes : List ℕ) → p.over ≡ false → R.room ≤ left

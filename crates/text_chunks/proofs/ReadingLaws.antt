@@ -1,16 +1,15 @@
 -- What a read gave and what comes after it, by the tests of the code. Assumes nothing.
 use Prim.Native.Nat.{ℕ, ◌≤◌}
-use mathlib.Core.Path.{◌≡◌, refl, ap, sym, ◌∙◌}
-use mathlib.Core.Bool.{Bool, true, false, cond, true≢false}
+use mathlib.Core.Path.{◌≡◌, refl, sym}
+use mathlib.Core.Bool.{Bool, true, false, cond}
 use mathlib.Core.List.{List}
 use native.Mathlib.Omega.{arith}
 use borrow.Author.Tests.{eq-eqb, ne_eqb}
-use lib.Dec.{T, eqb}
+use lib.Dec.{eqb}
 use lib.ListN.{length, take}
 use lib.Seq.{length-take-le}
-use lib.IntN.{ℤ, pos, negsuc, nat_abs}
-use lib.Signed.{lt_z, non_neg, nat_abs-le}
-use mir.Syntax.{w32, w64}
+use lib.IntN.{ℤ, pos, negsuc}
+use mir.Syntax.{w32}
 use mir.Val.{Fits, SFits, of_z}
 use Rattle.text_chunks.specs.declared.Next.TheVariants.{Read, Rest, End, Failed}
 use Rattle.text_chunks.specs.Reading.{given, after_failure, after_part}
@@ -22,7 +21,7 @@ unfolding after_failure
 failed_again (pos e) h f = sym (rw (eq-eqb e 4 h))
 failed_again (negsuc e) h f = absurd (omega (arith, f.sfits, h))
 
-pub failed_told : (error : ℤ) → (of_z w32 error ≡ 4 → ⊥) → Failed ≡ after_failure error
+pub failed_told : (error : ℤ) → (of_z w32 error ≡ 4 → ⊥) → Failed error ≡ after_failure error
 unfolding after_failure
 failed_told (pos e) h = sym (rw (ne_eqb e 4 h))
 failed_told (negsuc e) h = refl
@@ -45,7 +44,7 @@ pub failed_place : (error : ℤ) → rest_place (after_failure error) ≡ 0
 unfolding after_failure rest_place
 failed_place (pos e) = by (eqb e 4)
   where
-    by : (t : Bool) → rest_place (cond t Read Failed) ≡ 0
+    by : (t : Bool) → rest_place (cond t Read (Failed (pos e))) ≡ 0
     by true = refl
     by false = refl
 failed_place (negsuc e) = refl
@@ -59,19 +58,6 @@ part_place false place end h = by (eqb place end)
     by true = omega arith
     by false = h
 
--- the tests on what a read gave: the code reads it back as z
--- not below 0: as many bytes as the code casts it to
-some_read : (z : ℤ) → lt_z z (pos 0) ≡ false → T (non_neg z) × (nat_abs z ≡ given z)
-unfolding given
-some_read (pos k) u = (tt, refl)
-some_read (negsuc k) u = absurd (true≢false u)
-
-pub cast_read : (got z : ℤ) → z ≡ got → lt_z z (pos 0) ≡ false → T (non_neg z) × (nat_abs z ≡ given got)
-cast_read got z e t = let (a, b) = some_read z t in (a, b ∙ ap given e)
-
-pub cast_fits : (got z : ℤ) → z ≡ got → SFits w64 got → Fits w64 (nat_abs z)
-cast_fits got z e f = record { fits = omega (arith, nat_abs-le got f.sfits, ap nat_abs e) }
-
 -- a part of the bytes that a read gave
-pub given_room : (chunk : List ℕ) (place n g : ℕ) → n ≡ g → g ≤ length chunk → place ≤ g → place ≤ length (take n chunk)
-given_room chunk place n g e h l = omega (arith, e, h, l, length-take-le n chunk (omega (arith, e, h)))
+pub given_room : (chunk : List ℕ) (place n : ℕ) → n ≤ length chunk → place ≤ n → place ≤ length (take n chunk)
+given_room chunk place n h l = omega (arith, l, length-take-le n chunk h)

@@ -36,18 +36,18 @@ unfoldable pub rest_place : Next → ℕ
 rest_place (Rest place) = place
 rest_place Read = 0
 rest_place End = 0
-rest_place Failed = 0
+rest_place (Failed error) = 0
 
 -- what is to hold where the rest of the chunk comes next
 unfoldable pub IfRest : Next → Type 0 → Type 0
 IfRest (Rest place) holds = holds
 IfRest Read holds = Unit
 IfRest End holds = Unit
-IfRest Failed holds = Unit
+IfRest (Failed error) holds = Unit
 
 -- whether the program goes on
 unfoldable pub goes_on : Next → Bool
 goes_on (Rest place) = true
 goes_on Read = true
 goes_on End = false
-goes_on Failed = false
+goes_on (Failed error) = false

@@ -1,38 +1,75 @@
 // An input that comes in chunks becomes lines: what every program that reads lines shares, whatever it makes of them.
 #![tactic(auto)]
 
-ghost use Rattle.std.specs.Prelude.{◌≡◌, ◌≤◌, length, take};
+ghost use Rattle.std.specs.Prelude.{◌≡◌, ◌≤◌, ◌↔◌, ℕ, List, [], IsTrue, length, take};
 ghost use Rattle.text_chunks.specs.Internal.{keep_all};
 ghost use Rattle.text_chunks.specs.Reading.{after_failure, after_part};
+
+use std::marker::Model;
 
 // The error of a call that a signal interrupted.
 const EINTR: i32 = 4;
 
-// Keeps the bytes of a line, as far as there is room for them, and returns how many are kept then.
-pub fn keep_part(kept: usize, line: &mut [u8], part: &[u8]) -> usize
-    requires { (kept ≤ 17) × (length line.old ≡ 17) }
-    ensures part { take result line.new ≡ keep_all (take kept line.old) part.now }
-    ensures bound { result ≤ 17 }
-{
-    let mut n = kept;
-    for i in 0..part.len() {
-        if n == 17 {
-            return n;
-        }
-        line[n] = part[i];
-        n += 1;
+// The bytes that are kept of a line that has begun, in a lent slice of 17 bytes: so many tell what any line says.
+#[derive(Drop)]
+pub struct Line<'a> {
+    bytes: &'a mut [u8],
+    len: usize,
+}
+
+impl<'a> Model for Line<'a> {
+    ghost Value = { List ℕ };
+
+    ghost view = { λ l. take l.len l.bytes.now };
+
+    ghost invariant = { λ l. (l.len ≤ 17) × (length l.bytes.now ≡ 17) };
+}
+
+impl<'a> Line<'a> {
+    // No byte is kept yet.
+    pub fn new(bytes: &'a mut [u8]) -> Line<'a>
+        requires { length bytes.old ≡ 17 }
+        ensures { result ≡ [] }
+    {
+        Line { bytes, len: 0 }
     }
-    n
+
+    pub fn is_empty(&self) -> bool
+        ensures { IsTrue result ↔ (self.now ≡ []) }
+    {
+        self.len == 0
+    }
+
+    pub fn as_slice(&self) -> &[u8]
+        ensures { result.now ≡ self.now }
+    {
+        &self.bytes[..self.len]
+    }
+
+    pub fn clear(&mut self)
+        ensures { self.new ≡ [] }
+    {
+        self.len = 0;
+    }
+
+    // Keeps more bytes, as far as there is room for them.
+    pub fn keep(&mut self, part: &[u8])
+        ensures { self.new ≡ keep_all self.old part.now }
+    {
+        let more = (17 - self.len).min(part.len());
+        self.bytes[self.len..self.len + more].copy_from_slice(&part[..more]);
+        self.len += more;
+    }
 }
 
 // What comes after a round of such a program: a read, the rest of this chunk from a place on, or nothing more, since the reading has ended
-// or a read failed.
-#[derive(Clone, Copy)]
+// or a read failed, with this error. A Result would hold the first three in one more enum.
+#[derive(Clone, Copy, Debug, PartialEq, Eq)]
 pub enum Next {
     Read,
     Rest(usize),
     End,
-    Failed,
+    Failed(i32),
 }
 
 // What comes after a failed read: another one where a signal only interrupted it.
@@ -42,7 +79,7 @@ pub fn after_failure(error: i32) -> Next
     if error == EINTR {
         return Next::Read;
     }
-    Next::Failed
+    Next::Failed(error)
 }
 
 // What comes after the bytes of a chunk up to a place.

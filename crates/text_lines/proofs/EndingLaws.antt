@@ -1,15 +1,17 @@
 -- Where a line ends: byte by byte, behind 16 digits and behind a miss. Assumes nothing.
-use Prim.Native.Nat.{ℕ, zero, suc, ◌+◌, ◌≤◌, ◌<◌}
+use Prim.Native.Nat.{ℕ, zero, suc, ◌≤◌, ◌<◌}
 use mathlib.Core.Path.{◌≡◌, refl, ap, sym, ◌∙◌, subst}
 use mathlib.Core.Bool.{Bool, true, false, cond}
 use mathlib.Core.List.{List, [], ◌∷◌}
 use native.Mathlib.Nat.{not-suc-le-zero, le_of_suc-le-suc}
-use native.Mathlib.Numerals.{add-one}
 use native.Mathlib.Omega.{arith}
-use borrow.Author.Tests.{eq-eqb, ne_eqb, eqb-true, ltb-true}
+use borrow.Author.Tests.{eq-eqb, ne_eqb, eqb-true, ltb-true, ltb-false}
 use lib.Dec.{eqb, ltb}
-use lib.ListN.{length, take, drop, drop_of_length-le}
-use lib.Seq.{drop-cons, length-take-le}
+use lib.ListN.{length, take}
+use lib.Seq.{length-take-le}
+use Rattle.std.specs.List.{position_or_len}
+use Rattle.std.proofs.Common.{Some, None, unwrap_or}
+use Rattle.std.proofs.lemmas.List.Recursion.{is_position_or_len}
 use Rattle.code_theory.specs.Sum.{at}
 use Rattle.code_theory.proofs.QuestionLaws.{and_true}
 use Rattle.text_lines.specs.Line.{is_digit, is_digits, is_slot, is_miss}
@@ -21,28 +23,6 @@ pub line_step : (b : ℕ) (bytes : List ℕ) → line_length (b ∷ bytes) ≡ c
 unfolding line_length
 line_step b bytes = refl
 
--- where byte i is the first that may be a newline: it is one, it is none, or there is no byte i
-line_from : (bytes : List ℕ) (i : ℕ) → i < length bytes → line_length (drop i bytes) ≡ cond (eqb (at bytes i) 10) 0 (suc (line_length (drop (i + 1) bytes)))
-line_from bytes i h = rw (add-one, drop-cons bytes i 0, line_step) refl
-
-pub line_here : (bytes : List ℕ) (i : ℕ) → i < length bytes → at bytes i ≡ 10 → line_length bytes ≡ i + line_length (drop i bytes) → i ≡ line_length bytes
-line_here bytes i h e p =
-    let z : line_length (drop i bytes) ≡ 0 = rw (line_from bytes i h, eq-eqb (at bytes i) 10 e) in
-    omega arith
-
-pub line_on : (bytes : List ℕ) (i : ℕ) → i < length bytes → (at bytes i ≡ 10 → ⊥) → line_length bytes ≡ i + line_length (drop i bytes)
-    → line_length bytes ≡ i + 1 + line_length (drop (i + 1) bytes)
-line_on bytes i h d p =
-    let z : line_length (drop i bytes) ≡ suc (line_length (drop (i + 1) bytes)) = rw (line_from bytes i h, ne_eqb (at bytes i) 10 d) in
-    omega arith
-
-pub line_none : (bytes : List ℕ) (i : ℕ) → length bytes ≡ i → line_length bytes ≡ i + line_length (drop i bytes) → length bytes ≡ line_length bytes
-unfolding line_length
-line_none bytes i n p =
-    let h : length bytes ≤ i = omega arith in
-    let z : line_length (drop i bytes) ≡ 0 = ap line_length (drop_of_length-le bytes h) in
-    omega arith
-
 -- a line ends within the bytes, or with them
 pub line_within : (bytes : List ℕ) → line_length bytes ≤ length bytes
 unfolding line_length
@@ -52,6 +32,18 @@ line_within (b ∷ bytes) = subst (λ n. n ≤ suc (length bytes)) (sym (line_st
     by : (t : Bool) → line_length bytes ≤ length bytes → cond t 0 (suc (line_length bytes)) ≤ suc (length bytes)
     by true h = omega arith
     by false h = omega arith
+
+-- it is the place of the first newline, or the length
+pub line_found : (bytes : List ℕ) → let n = position_or_len (λ b. eqb b 10) bytes in unwrap_or (cond (ltb n (length bytes)) (Some n) None) (length bytes) ≡ line_length bytes
+unfolding line_length
+line_found bytes =
+    let n = position_or_len (λ b. eqb b 10) bytes in
+    let e : line_length bytes ≡ n = is_position_or_len line_length (λ b. eqb b 10) refl (λ b l. line_step b l ∙ ap (cond (eqb b 10) 0) (omega arith)) bytes in
+    by n (ltb n (length bytes)) refl (omega (arith, e, line_within bytes)) ∙ sym e
+  where
+    by : (n : ℕ) (t : Bool) → ltb n (length bytes) ≡ t → n ≤ length bytes → unwrap_or (cond t (Some n) None) (length bytes) ≡ n
+    by n true e h = refl
+    by n false e h = omega (arith, h, ltb-false n (length bytes) e)
 
 -- what stands behind it is a newline
 pub line_newline : (bytes : List ℕ) → line_length bytes < length bytes → at bytes (line_length bytes) ≡ 10

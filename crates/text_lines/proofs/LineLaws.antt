@@ -4,39 +4,25 @@ use mathlib.Core.Path.{◌≡◌, refl, ap, sym, ◌∙◌}
 use mathlib.Core.Bool.{Bool, true, false, ◌&&◌, cond}
 use mathlib.Core.List.{List, [], ◌∷◌, ◌++◌, append-nil}
 use native.Mathlib.Nat.{not-suc-le-zero, le_of_suc-le-suc, zero-add}
-use native.Mathlib.Numerals.{add-one}
 use native.Mathlib.Omega.{arith}
 use borrow.Author.Tests.{ne_eqb, leb-true, leb-false, eqb-true}
 use lib.Dec.{eqb, leb}
 use lib.ListN.{length, take, drop, set, length-map, get_or-map, drop_of_length-le}
-use lib.Seq.{drop-cons, take_all, length-take-le}
+use lib.Seq.{take_all, length-take-le}
+use Rattle.std.specs.List.{fold}
 use Rattle.code_theory.specs.Sum.{at}
 use Rattle.code_theory.proofs.QuestionLaws.{and_true}
 use Rattle.text_buffer.specs.Text.{put}
 use Rattle.text_buffer.proofs.PutLaws.{put_byte}
 use Rattle.text_lines.specs.Line.{slot, miss, bad, is_digit, is_digits, is_slot, is_miss, word_of, read_line}
 
--- the digits of a line from place i on
-digits_step : (line : List ℕ) (i : ℕ) (b : Bool) → i < length line → b ≡ is_digit (at line i) → is_digits (drop i line) ≡ b && is_digits (drop (i + 1) line)
+-- a fold that asks each byte
+pub digits_fold : (all : Bool) (line : List ℕ) → fold (λ t b. t && is_digit b) all line ≡ all && is_digits line
 unfolding is_digits
-digits_step line i b h e = ap is_digits (drop-cons line i 0 h) ∙ ap (λ x. x && is_digits (drop (suc i) line)) (sym e) ∙ ap (λ k. b && is_digits (drop k line)) (sym (add-one i))
-
--- one byte more asked, and all
-pub digits_next : (line : List ℕ) (i : ℕ) (all b : Bool) → i < length line → b ≡ is_digit (at line i) → is_digits line ≡ all && is_digits (drop i line)
-    → is_digits line ≡ (all && b) && is_digits (drop (i + 1) line)
-digits_next line i all b h e p = p ∙ ap (λ x. all && x) (digits_step line i b h e) ∙ by all
-  where
-    by : (a : Bool) → a && (b && is_digits (drop (i + 1) line)) ≡ (a && b) && is_digits (drop (i + 1) line)
-    by true = refl
-    by false = refl
-
-pub digits_all : (line : List ℕ) (i : ℕ) (all : Bool) → length line ≤ i → is_digits line ≡ all && is_digits (drop i line) → all ≡ is_digits line
-unfolding is_digits
-digits_all line i all h p = sym (p ∙ ap (λ l. all && is_digits l) (drop_of_length-le line h) ∙ by all)
-  where
-    by : (a : Bool) → a && true ≡ a
-    by true = refl
-    by false = refl
+digits_fold true [] = refl
+digits_fold false [] = refl
+digits_fold true (b ∷ line) = digits_fold (is_digit b) line
+digits_fold false (b ∷ line) = digits_fold false line
 
 -- each byte of a line of digits is one
 pub digit_at : (line : List ℕ) → is_digits line ≡ true → (i : ℕ) → i < length line → (48 ≤ at line i) × (at line i ≤ 51)

@@ -5,8 +5,8 @@ ghost use Rattle.std.specs.Prelude.{◌≡◌, true, length};
 ghost use Rattle.text_lines.specs.Line.{is_digit, is_digits, is_slot, is_miss, word_of, read_line};
 ghost use Rattle.text_lines.specs.Internal.{line_of, line_length, has_slot, has_miss};
 
-// What a line says.
-#[derive(Clone, Copy)]
+// What a line says: three cases, none of them an error.
+#[derive(Clone, Copy, Debug, PartialEq, Eq)]
 pub enum Kind {
     Slot,
     Miss,
@@ -25,23 +25,17 @@ fn is_digit(b: u8) -> bool
 fn is_digits(line: &[u8]) -> bool
     ensures { result ≡ is_digits line.now }
 {
-    let mut all = true;
-    for i in 0..line.len() {
-        all = all & is_digit(line[i]);
-    }
-    all
+    line.iter().fold(true, |all, b| all & is_digit(*b))
 }
 
 // How many bytes stand before the first newline: all where there is none.
 pub fn line_length(bytes: &[u8]) -> usize
     ensures { result ≡ line_length bytes.now }
 {
-    for (i, b) in bytes.iter().enumerate() {
-        if *b == b'\n' {
-            return i;
-        }
-    }
-    bytes.len()
+    bytes
+        .iter()
+        .position(|b| *b == b'\n')
+        .unwrap_or(bytes.len())
 }
 
 // Whether the line is a slot: 16 digits 0 to 3.
@@ -88,12 +82,13 @@ pub fn has_miss(n: usize, bytes: &[u8]) -> bool
     n < bytes.len() && is_miss(&bytes[..n])
 }
 
-// Fills the word with the symbols of a slot's digits.
+// Fills the word with the symbols of a slot's digits. The word is written by its index, since the library's contracts say nothing of what a
+// zip over `iter_mut` leaves.
 pub fn fill_word(line: &[u8], word: &mut [u8])
     requires { (is_slot line.now ≡ true) × (length word.old ≡ 16) }
     ensures { word.new ≡ word_of line.now }
 {
-    for i in 0..16 {
-        word[i] = line[i] - b'0';
+    for (i, digit) in line.iter().enumerate() {
+        word[i] = *digit - b'0';
     }
 }

@@ -1,15 +1,10 @@
--- `top_below` meets its contract.
-use native.Mathlib.Omega.{arith}
-use Rattle.code_questions.proofs.Top.{top_none, top_next, top_tells}
+-- `top_below` meets its contract: the fold finds the largest.
+use Rattle.std.proofs.Common.{◌≡◌, ◌+◌, ◌∙◌, max, rules}
+use Rattle.std.specs.List.{fold, slice_range}
+use Rattle.code_questions.proofs.Top.{top_tells}
 use Rattle.code_questions.proofs.top_below.Goals as goal
-
-pub loop-j-init : goal.loop-j-init
-loop-j-init c = (top_none _ _, omega arith)
-
-pub loop-j-preserved : goal.loop-j-preserved
-loop-j-preserved c =
-    (top_next _ _ c.loop-j.j c.loop-j.top _ c.loop-j.invariant.0 c.larger-top.ensures, omega arith)
 
 pub returns : goal.returns
 returns c =
-    top_tells c.args.q c.args.s.now c.args.i c.loop-j.j c.args.n c.loop-j.top c.wide.result c.requires.0 (omega arith) c.wide.ensures c.loop-j.invariant.0
+    let top : c.fold-top.result ≡ fold max 0 (slice_range c.args.s.now c.args.i (c.args.i + c.args.n)) = search rules in
+    top_tells _ _ _ _ _ c.requires.0 c.requires.1 (c.from.ensures ∙ top)

@@ -1,35 +1,31 @@
--- `decode` meets its contract: the questions give the number, and the reader's outcome decides question 9.
-use mathlib.Core.Path.{◌≡◌, sym, ◌∙◌}
-use native.Mathlib.Omega.{arith}
-use Rattle.codec.specs.Codec.{decoded}
-use Rattle.codec.specs.Internal.{word_refusal}
+-- `decode` meets its contract, by its questions and by the reading.
+use Rattle.std.specs.Prelude.{◌≡◌, Err}
+use Rattle.std.proofs.Common.{rules, sym, ◌∙◌, ap, arith}
+use Rattle.code_questions.specs.Internal.{refusal}
+use Rattle.code_questions.specs.Refusal.{answered}
+use Rattle.codec.specs.Codec.{reading_values}
 use Rattle.codec.proofs.Accepted.{readable}
-use Rattle.codec.proofs.ReadLaws.{decode_refused, decode_doubtful, decode_accepted}
+use Rattle.codec.proofs.ReadLaws.{decode_refused, decode_settled}
 use Rattle.codec.proofs.decode.Goals as goal
 
-pub returns-then-number-ne0 : goal.returns-then-number-ne0
-unfolding decoded
-returns-then-number-ne0 c =
-    let p = decode_refused _ _ _ _ _ c.word_refusal-number.ensures c.if-number-ne0.true in
-    record { answer = p.0; buffer = p.1 }
+pub returns-in_err-ask_word-clause-answer : goal.returns-in_err-ask_word-clause-answer
+unfolding refusal answered
+returns-in_err-ask_word-clause-answer c =
+    let e : c.from_residual.result ≡ Err c.in_err-ask_word.field-0.0 = search rules in
+    ap (answered reading_values) e ∙ (decode_refused _ _ _ _ _ c.in_err-ask_word.ensures).0
+
+pub returns-in_err-ask_word-clause-buffer : goal.returns-in_err-ask_word-clause-buffer
+unfolding refusal
+returns-in_err-ask_word-clause-buffer c = (decode_refused _ _ _ _ _ c.in_err-ask_word.ensures).1
 
 pub read-requires : goal.read-requires
+unfolding refusal
 read-requires c =
-    let yes : word_refusal c.args.q c.args.m c.args.message.now c.args.word.now ≡ 0 = sym c.word_refusal-number.ensures ∙ c.if-number-ne0.false in
-    let y = readable _ _ _ _ yes in (y.well_formed, omega (arith, y.sized.message))
+    let r = readable _ _ _ _ (sym c.in_ok-ask_word.ensures) in
+    (r.well_formed, omega (arith, r.sized.message))
 
-pub returns-in-Read : goal.returns-in-Read
-unfolding decoded
-returns-in-Read c =
-    let yes : word_refusal c.args.q c.args.m c.args.message.now c.args.word.now ≡ 0 = sym c.word_refusal-number.ensures ∙ c.if-number-ne0.false in
-    let r = c.read in
-    let p = decode_accepted _ _ _ _ _ r.result _ yes r.ensures c.in-Read.is in
-    record { answer = p.0; buffer = p.1 }
-
-pub returns-in-Doubtful : goal.returns-in-Doubtful
-unfolding decoded
-returns-in-Doubtful c =
-    let yes : word_refusal c.args.q c.args.m c.args.message.now c.args.word.now ≡ 0 = sym c.word_refusal-number.ensures ∙ c.if-number-ne0.false in
-    let r = c.read in
-    let p = decode_doubtful _ _ _ _ _ r.result yes r.ensures c.in-Doubtful.is in
-    record { answer = p.0; buffer = p.1 }
+pub returns : goal.returns
+unfolding refusal
+returns c =
+    let d = decode_settled _ _ _ _ (sym c.in_ok-ask_word.ensures) _ _ c.read.ensures in
+    record { answer = ap (answered reading_values) c.ok_or.ensures.value ∙ d.0; buffer = d.1 }

@@ -28,7 +28,7 @@ loop-v-preserved c =
       omega arith,
       omega arith,
       step_sum c.args.q l.v _ _ f l.invariant.2 l.invariant.3 _ l.invariant.0 c.lanes_equal-n.ensures,
-      step_max c.args.q l.v _ _ f l.invariant.2 l.invariant.3 _ _ l.invariant.0 c.lanes_equal-n.ensures c.larger-next.ensures,
+      step_max c.args.q l.v _ _ f l.invariant.2 l.invariant.3 _ _ l.invariant.0 c.lanes_equal-n.ensures c.max-next.ensures,
     )
 
 pub overflow_sub-result : goal.overflow_sub-result

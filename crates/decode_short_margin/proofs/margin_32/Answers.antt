@@ -13,8 +13,8 @@ pub overflow_cast-q : goal.overflow_cast-q
 overflow_cast-q c =
     record { fits = omega (arith, bounds c.args.q c.requires.0) }
 
-pub lead-requires : goal.lead-requires
-lead-requires c =
+pub lead-last-requires : goal.lead-last-requires
+lead-last-requires c =
     let d = c.less.ensures in
     lead_room _ 16 _ _ c.requires.0 (less_below _ _ _ _ c.requires.0 d) (last_lanes _ c.args.f c.args.h _ d) (omega arith) (omega (arith, c.requires.3 4 (omega arith)))
 
@@ -23,5 +23,5 @@ returns c =
     let d = c.less.ensures in
     let last =
     lead_told _ 16 _ _ c.requires.0 (less_below _ _ _ _ c.requires.0 d) (last_lanes _ c.args.f c.args.h _ d) (omega arith) (omega (arith, c.requires.3 4 (omega arith)))
-    c.lead.result c.lead.ensures in
-    margin_32_is c.args.q c.args.f c.args.h _ _ _ c.requires.0 c.four_leads.ensures last c.lower.ensures
+    c.lead-last.result c.lead-last.ensures in
+    margin_32_is c.args.q c.args.f c.args.h _ _ _ c.requires.0 c.four_leads.ensures last c.min.ensures

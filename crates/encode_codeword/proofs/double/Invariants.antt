@@ -1,10 +1,7 @@
--- The loop's invariant: the first 8 c places from 8 n on are filled.
-use Prim.Native.Nat.{◌*◌, ◌≤◌, ◌-◌}
-use Rattle.encode_codeword.specs.Internal.{Doubled}
+-- The loop's invariant: the first 8 c places of the upper half are filled.
+use Rattle.std.proofs.Common.{◌*◌}
+use Rattle.encode_codeword.proofs.Doubling.{Filled}
 use Rattle.encode_codeword.proofs.double.Given as goal
 
 abbrev pub invariant-loop-c : goal.invariant-loop-c
-invariant-loop-c l = (l.c ≤ l.n) × Doubled l.q (8 * l.n) l.a l.initial.word l.word (8 * l.c)
-
-abbrev pub decreases-loop-c : goal.decreases-loop-c
-decreases-loop-c l = l.n - l.c
+invariant-loop-c l = Filled l.q l.a l.low l.initial.high l.high (8 * l.c)

@@ -1,21 +1,14 @@
--- `deinterleave` meets its contract: `put_back` gives the number and leaves the target.
-use mathlib.Core.Path.{sym, ◌∙◌}
-use Rattle.interleave_theory.proofs.GroupLaws.{group_refused, group_accepted}
-use Rattle.interleave.specs.Interleave.{moved}
+-- `deinterleave` meets its contract: `move_group` gives the refusal and leaves the target.
+use Rattle.std.proofs.Common.{◌∙◌}
+use Rattle.code_questions.proofs.RefusalLaws.{answered_none}
+use Rattle.interleave_theory.specs.Group.{group_answer}
+use Rattle.interleave_theory.proofs.GroupLaws.{put_back_moves}
 use Rattle.interleave.proofs.deinterleave.Goals as goal
 
-pub returns-then-number-ne0 : goal.returns-then-number-ne0
-unfolding moved
-returns-then-number-ne0 c = let e = c.put_back-number.ensures in
-    record {
-      answer = group_refused _ _ _ _ _ _ e.number c.if-number-ne0.true;
-      buffer = e.buffer;
-    }
-
 pub returns : goal.returns
-unfolding moved
-returns c = let e = c.put_back-number.ensures in
+unfolding group_answer
+returns c = let e = c.move_group.ensures in
     record {
-      answer = group_accepted _ _ _ _ _ (sym e.number ∙ c.if-number-ne0.false);
-      buffer = e.buffer;
+      answer = answered_none _ _ e.answer;
+      buffer = e.buffer ∙ put_back_moves _ _ _ _ _;
     }

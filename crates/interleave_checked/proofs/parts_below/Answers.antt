@@ -1,18 +1,37 @@
 -- `parts_below` meets its contract.
-use native.Mathlib.Omega.{arith}
-use Rattle.interleave_checked.proofs.EightLaws.{parts_none, parts_next, parts_no, parts_all}
+use Rattle.std.proofs.Common.{◌≡◌, true, length, ◌∙◌, arith}
+use mathlib.Core.Path.{subst}
+use Rattle.std.proofs.lemmas.List.{length_push}
+use Rattle.code_questions.specs.Internal.{Tells}
+use Rattle.interleave_checked.proofs.EightLaws.{part_rest, part_within, part_tells, parts_end, parts_next, parts_no}
 use Rattle.interleave_checked.proofs.parts_below.Goals as goal
 
-pub loop-k-init : goal.loop-k-init
-loop-k-init c = (omega arith, parts_none _ _)
-
 pub returns-then-not-eights_below : goal.returns-then-not-eights_below
-returns-then-not-eights_below c = parts_no _ _ c.loop-k.k _ _ (omega arith) c.if-not-eights_below.true c.eights_below.ensures
+returns-then-not-eights_below c =
+    let v = c.loop-part.invariant in
+    let h = c.in-Some.ensures.steps in
+    let s = c.args.s.now in
+    let size : length c.in-Some.part.now ≡ 512 = h.1.1 ∙ v.0 in
+    parts_no c.args.q 512 (length c.loop-part.yielded) s _ (part_within 512 _ s _ _ _ v.1 v.2 h.1.0 size) c.if-not-eights_below.true
+    (part_tells 512 _ s _ _ _ v.1 v.2 h.1.0 size _ c.args.q c.eights_below.ensures)
 
-pub loop-k-preserved : goal.loop-k-preserved
-loop-k-preserved c =
-    let l = c.loop-k in
-    (omega arith, parts_next _ l.k _ _ c.if-not-eights_below.false l.invariant.1 c.eights_below.ensures)
+pub loop-part-preserved : goal.loop-part-preserved
+loop-part-preserved c =
+    let v = c.loop-part.invariant in
+    let h = c.in-Some.ensures.steps in
+    let s = c.args.s.now in
+    let size : length c.in-Some.part.now ≡ 512 = h.1.1 ∙ v.0 in
+    rw length_push (
+      h.0 ∙ v.0,
+      part_rest 512 _ s _ _ _ v.1 v.2 h.1.0 size,
+      part_within 512 _ s _ _ _ v.1 v.2 h.1.0 size,
+      parts_next c.args.q 512 _ s _ c.if-not-eights_below.false v.3 (part_tells 512 _ s _ _ _ v.1 v.2 h.1.0 size _ c.args.q c.eights_below.ensures),
+    )
 
 pub returns : goal.returns
-returns c = parts_all _ _ c.loop-k.k _ (omega arith) c.loop-k.invariant.1
+returns c =
+    let l = c.loop-part in
+    let v = l.invariant in
+    let h = c.in-None.ensures.steps in
+    let s = c.args.s.now in
+    subst (λ n. Tells true c.args.q n s 0) (parts_end 512 (length l.yielded) s _ v.1 v.2 (omega (arith, h.1.0, v.0)) c.requires.1) v.3

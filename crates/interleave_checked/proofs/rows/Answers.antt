@@ -1,15 +1,21 @@
 -- `rows` meets its contract: the slices are asked about, and then the rows are transposed.
-use mathlib.Core.Path.{refl}
-use native.Mathlib.Omega.{arith}
+use Rattle.std.proofs.Common.{refl}
+use Rattle.std.proofs.lemmas.Result.{err_from_is_err_and}
+use Rattle.code_questions.specs.Internal.{refusal}
 use Rattle.interleave_checked.proofs.SlicesLaws.{sizes, checked_no, checked_yes}
 use Rattle.interleave_checked.proofs.rows.Goals as goal
 
-pub returns-then-refused-ne0 : goal.returns-then-refused-ne0
-returns-then-refused-ne0 c = checked_no _ _ _ _ _ _ _ refl c.slices_refusal-refused.ensures (λ z. omega arith)
+pub returns-in_err-ask_slices : goal.returns-in_err-ask_slices
+unfolding refusal
+returns-in_err-ask_slices c =
+    let p = err_from_is_err_and c.from_residual.result c.from_residual.ensures.1 in
+    rw (p.1, p.2) (checked_no _ _ _ _ _ _ refl _ c.in_err-ask_slices.ensures)
 
 pub transpose-requires : goal.transpose-requires
-transpose-requires c = sizes _ _ _ _ _ c.slices_refusal-refused.ensures (λ z. omega arith)
+unfolding refusal
+transpose-requires c =
+    sizes _ _ _ _ c.in_ok-ask_slices.ensures
 
 pub returns : goal.returns
-returns c =
-    checked_yes _ _ _ _ _ _ _ refl c.slices_refusal-refused.ensures _ (omega arith) c.transpose.ensures
+unfolding refusal
+returns c = checked_yes _ _ _ _ _ _ refl _ c.in_ok-ask_slices.ensures c.transpose.ensures

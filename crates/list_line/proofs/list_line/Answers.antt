@@ -1,6 +1,8 @@
 -- `list_line` meets its contract, by the kinds of a line.
 use mathlib.Core.Path.{sym, ap, ◌∙◌}
+use Rattle.text_buffer.specs.Text.{bytes, spaced}
 use Rattle.text_lines.specs.Internal.{line_of}
+use Rattle.list_line.specs.Listing.{bad_text}
 use Rattle.text_lines.proofs.LineLaws.{slot_reads}
 use Rattle.list_line.proofs.SlotLaws.{relisted, listed_as, told_bad}
 use Rattle.list_line.proofs.list_line.Goals as goal
@@ -26,9 +28,9 @@ returns-in-Miss c =
     c.list_miss.ensures
 
 pub returns-in-Bad : goal.returns-in-Bad
-unfolding line_of
+unfolding line_of bad_text spaced bytes
 returns-in-Bad c =
     let line = c.args.line.now in
-    let w = c.put_bad-end.ensures in
+    let w = c.put_text.ensures in
     relisted c.args.receiver _ _ _ _ c.args.out.now c.args.at _ _ (ap (λ x. line_of x line) (sym c.in-Bad.is) ∙ c.kind_of.ensures)
     (listed_as c.args.receiver _ _ _ _ c.args.out.now c.args.at _ _ (told_bad c.args.receiver) (record { place = w.place; buffer = w.buffer }))

@@ -1,5 +1,5 @@
 -- `put_zone` meets its contract, by the cases of the zone.
-use mathlib.Core.Path.{sym, ap}
+use mathlib.Core.Path.{sym, ap, ◌∙◌}
 use mathlib.Core.List.{[], ◌∷◌, ◌++◌}
 use native.Mathlib.Omega.{arith}
 use Rattle.text_buffer.specs.Text.{bytes}
@@ -10,26 +10,25 @@ use Rattle.list_line.proofs.TextLaws.{field_length}
 use Rattle.list_line.proofs.put_zone.Goals as goal
 
 pub put_field-requires : goal.put_field-requires
-put_field-requires c =
-    omega (arith, c.requires, field_length c.in-Known.d 32 (omega arith))
+put_field-requires c = omega (arith, c.requires, field_length c.from.result 32 (omega arith))
 
-pub returns-in-Known : goal.returns-in-Known
+pub returns-in-Some : goal.returns-in-Some
 unfolding zone_text field
-returns-in-Known c =
+returns-in-Some c =
     let e = c.put_field.ensures in
-    let w = written_as {b = c.args.out.now} {at = c.args.at} (ap (λ x. zone_text x ++ (32 ∷ [])) (sym c.in-Known.is))
-    (record { place = e.place; buffer = e.buffer }) in
+    let w = written_as {b = c.args.out.now} {at = c.args.at}
+    (ap (λ d. field d 32) c.from.ensures ∙ ap (λ x. zone_text x ++ (32 ∷ [])) (sym c.in-Some.is)) (record { place = e.place; buffer = e.buffer }) in
     record {
       place = w.place;
       buffer = w.buffer;
-      small = omega (arith, e.place, field_length c.in-Known.d 32 (omega arith));
+      small = omega (arith, e.place, field_length c.from.result 32 (omega arith));
     }
 
-pub returns-in-Unknown : goal.returns-in-Unknown
+pub returns-in-None : goal.returns-in-None
 unfolding zone_text bytes
-returns-in-Unknown c =
+returns-in-None c =
     let e = c.put_text.ensures in
-    let w = written_as {b = c.args.out.now} {at = c.args.at} (ap (λ x. zone_text x ++ (32 ∷ [])) (sym c.in-Unknown.is))
+    let w = written_as {b = c.args.out.now} {at = c.args.at} (ap (λ x. zone_text x ++ (32 ∷ [])) (sym c.in-None.is))
     (record { place = e.place; buffer = e.buffer }) in
     record {
       place = w.place;

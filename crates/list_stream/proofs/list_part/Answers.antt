@@ -8,4 +8,4 @@ unfolding remaining
 returns c =
     let e = c.feed-fed.ensures in
     part_fed _ _ _ _ _ c.args.at c.feed-fed.result.read c.feed-fed.result.written c.feed-fed.result.lister _ c.requires.1 e.read e.state e.count e.buffer
-    e.bounds.1 e.fit c.after_part-next.ensures
+    e.bounds.1 e.fit c.after_part.ensures

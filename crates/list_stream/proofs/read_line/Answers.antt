@@ -1,4 +1,5 @@
 -- `read_line` meets its contract: a slot is listed at once, anything else is read by `read_part`.
+use Rattle.std.proofs.Common.{rules, ◌≡◌, []}
 use mathlib.Core.Path.{sym, ◌∙◌}
 use native.Mathlib.Omega.{arith}
 use lib.ListN.{take}
@@ -22,7 +23,7 @@ list_slot-requires c = (
 
 pub after_line-requires : goal.after_line-requires
 after_line-requires c =
-    line_fit c.args.lister c.args.line.now _ _ c.requires.fit c.list_slot.ensures.session
+    line_fit c.args.lister _ _ c.requires.fit c.list_slot.ensures.session
 
 pub returns-then-has_slot : goal.returns-then-has_slot
 returns-then-has_slot c =
@@ -30,6 +31,7 @@ returns-then-has_slot c =
     let yes = sym c.has_slot.ensures ∙ c.if-has_slot.true in
     let f = slot_ends a.bytes.now yes in
     let e = c.list_slot.ensures in
-    reads_line a.lister a.line.now a.line.now a.bytes.now a.out.now a.at c.requires c.requires.fit.size (slot (word_of (take 16 a.bytes.now)))
-    c.list_slot.result 17 _ _ (omega (arith, f.1)) (omega (arith, f.0, f.1)) (slot_line a.line.now a.bytes.now a.lister.kept c.if-begun-eq0.true yes)
+    let none : a.line.now ≡ [] = search rules in
+    reads_line a.lister a.line.now a.bytes.now a.out.now a.at c.requires (slot (word_of (take 16 a.bytes.now)))
+    c.list_slot.result 17 _ _ _ none (omega (arith, f.1)) (omega (arith, f.0, f.1)) (slot_line a.line.now a.bytes.now none yes)
     e.session e.ends (record { place = e.place; buffer = e.buffer }) c.after_line.ensures

@@ -1,4 +1,5 @@
 -- `read_part` meets its contract: a miss is listed at once, any other part is kept and, where a newline ends it, listed.
+use Rattle.std.proofs.Common.{rules, ◌≡◌, []}
 use mathlib.Core.Path.{sym, ap, ◌∙◌}
 use native.Mathlib.Omega.{arith}
 use lib.ListN.{take}
@@ -12,7 +13,7 @@ use Rattle.list_stream.proofs.read_part.Goals as goal
 
 pub after_line-requires : goal.after_line-requires
 after_line-requires c =
-    line_fit c.args.lister c.args.line.now _ _ c.requires.fit c.list_miss.ensures.session
+    line_fit c.args.lister _ _ c.requires.fit c.list_miss.ensures.session
 
 pub returns-then-has_miss : goal.returns-then-has_miss
 returns-then-has_miss c =
@@ -20,26 +21,21 @@ returns-then-has_miss c =
     let yes = sym c.has_miss.ensures ∙ c.if-has_miss.true in
     let f = miss_ends c.line_length-n.result a.bytes.now c.line_length-n.ensures yes in
     let e = c.list_miss.ensures in
-    let line = miss_line a.line.now a.bytes.now a.lister.kept c.line_length-n.result c.if-begun-eq0.true c.line_length-n.ensures yes in
-    reads_line a.lister a.line.now a.line.now a.bytes.now a.out.now a.at c.requires c.requires.fit.size miss c.list_miss.result 2 _ _
+    let none : a.line.now ≡ [] = search rules in
+    let line = miss_line a.line.now a.bytes.now c.line_length-n.result none c.line_length-n.ensures yes in
+    reads_line a.lister a.line.now a.bytes.now a.out.now a.at c.requires miss c.list_miss.result 2 _ _ _ none
     (omega (arith, f.2)) (omega (arith, f.0, f.1, f.2)) line
     e.session e.ends (record { place = e.place; buffer = e.buffer }) c.after_line.ensures
 
-pub slice_bounds-keep_part-end : goal.slice_bounds-keep_part-end
-slice_bounds-keep_part-end c =
+pub slice_bounds-keep-end : goal.slice_bounds-keep-end
+slice_bounds-keep-end c =
     let bytes = c.args.bytes.now in
     sym (length-take-le c.line_length-n.result bytes (omega (arith, c.line_length-n.ensures, line_within bytes)))
 
 pub returns-then-n-bytes : goal.returns-then-n-bytes
 returns-then-n-bytes c =
     let a = c.args in
-    let e = c.keep_part-kept.ensures in
-    reads_part a.lister a.line.now c.keep_part-kept.new.line a.bytes.now a.out.now a.at c.requires (c.keep_part-kept.auto.line ∙ c.requires.fit.size)
-    c.keep_part-kept.result c.line_length-n.result c.line_length-n.ensures c.if-n-bytes.true e.bound e.part
-
-pub slice_bounds-list_line-end-2 : goal.slice_bounds-list_line-end-2
-slice_bounds-list_line-end-2 c =
-    sym (length-take-le c.keep_part-kept.result c.keep_part-kept.new.line (omega (arith, c.keep_part-kept.ensures.bound, c.keep_part-kept.auto.line, c.requires.fit.size)))
+    reads_part a.lister a.line.now a.bytes.now a.out.now a.at c.requires c.keep.new.self c.line_length-n.result c.line_length-n.ensures c.if-n-bytes.true c.keep.ensures
 
 pub overflow_add-n : goal.overflow_add-n
 overflow_add-n c =
@@ -47,14 +43,14 @@ overflow_add-n c =
 
 pub after_line-requires-2 : goal.after_line-requires-2
 after_line-requires-2 c =
-    line_fit c.args.lister c.args.line.now _ _ c.requires.fit c.list_line.ensures.session
+    line_fit c.args.lister _ _ c.requires.fit c.list_line-listed.ensures.session
 
 pub returns : goal.returns
 returns c =
     let a = c.args in
-    let e = c.list_line.ensures in
+    let e = c.list_line-listed.ensures in
     let l = c.line_length-n.ensures in
-    reads_line a.lister a.line.now c.keep_part-kept.new.line a.bytes.now a.out.now a.at c.requires (c.keep_part-kept.auto.line ∙ c.requires.fit.size) _
-    c.list_line.result _ _ _ (omega (arith, l)) (omega (arith, l, c.if-n-bytes.false, line_within a.bytes.now))
-    (ap read_line (sym (c.keep_part-kept.ensures.part ∙ ap (λ m. keep_all (take a.lister.kept a.line.now) (take m a.bytes.now)) l)))
+    let kept = c.as_slice.ensures ∙ c.keep.ensures ∙ ap (λ m. keep_all a.line.now (take m a.bytes.now)) l in
+    reads_line a.lister a.line.now a.bytes.now a.out.now a.at c.requires _ c.list_line-listed.result _ _ _ _ c.clear.ensures
+    (omega (arith, l)) (omega (arith, l, c.if-n-bytes.false, line_within a.bytes.now)) (ap read_line (sym kept))
     e.session e.ends (record { place = e.place; buffer = e.buffer }) c.after_line-2.ensures

@@ -10,25 +10,25 @@ use Rattle.rm_c.proofs.rm_read.Goals as goal
 pub overflow_add-result : goal.overflow_add-result
 overflow_add-result c =
     let d = c.decode in
-    let small = decode_small _ _ _ _ d.result d.ensures.answer c.in-Read.reading c.in-Read.is in
+    let small = decode_small _ _ _ _ d.result d.ensures.answer c.in-Ok.reading c.in-Ok.is in
     omega (arith, small.0, small.1)
 
-pub returns-in-Read : goal.returns-in-Read
+pub returns-in-Ok : goal.returns-in-Ok
 unfolding read_number numbered
-returns-in-Read c =
+returns-in-Ok c =
     let d = c.decode in
-    let x = decode_read c.args.q c.args.m c.args.message.now c.args.word.now d.result d.ensures.answer c.in-Read.reading c.in-Read.is in
+    let x = decode_read c.args.q c.args.m c.args.message.now c.args.word.now d.result d.ensures.answer c.in-Ok.reading c.in-Ok.is in
     record {
       answer = ap (λ w. 100 + w) x.1 ∙ sym (after_yes _ _ _ x.0);
       buffer = d.ensures.buffer;
     }
 
-pub returns-in-Refused : goal.returns-in-Refused
+pub returns-in-Err : goal.returns-in-Err
 unfolding read_number numbered
-returns-in-Refused c =
+returns-in-Err c =
     let d = c.decode in
-    let x = decode_number_lem c.args.q c.args.m c.args.message.now c.args.word.now d.result d.ensures.answer c.in-Refused.number c.in-Refused.is in
+    let x = decode_number_lem c.args.q c.args.m c.args.message.now c.args.word.now d.result d.ensures.answer c.in-Err.refusal c.in-Err.is in
     record {
-      answer = x.0 ∙ sym (after_no _ _ _ x.1);
+      answer = c.into.ensures ∙ x.0 ∙ sym (after_no _ _ _ x.1);
       buffer = d.ensures.buffer;
     }

@@ -1,18 +1,15 @@
--- The lister goes on from round to round, and the measure is the number of rounds that are left.
+-- The lister goes on from round to round.
 use Prim.Native.Nat.{◌≤◌}
 use lib.ListN.{length}
 use Rattle.text_chunks.specs.Reading.{given}
 use Rattle.list_stream.specs.Stream.{Fit}
 use Rattle.session_list.proofs.list_all.Given as goal
 
-abbrev pub invariant-loop-rounds : goal.invariant-loop-rounds
-invariant-loop-rounds l =
+abbrev pub invariant-loop : goal.invariant-loop
+invariant-loop l =
     record {
-      fit : Fit l.lister l.line;
+      fit : Fit l.lister;
       room : 64 ≤ length l.out;
-      got : given l.place.got ≤ length l.chunk;
-      at : l.place.at ≤ given l.place.got;
+      got : given l.place.read ≤ length l.chunk;
+      at : l.place.at ≤ given l.place.read;
     }
-
-abbrev pub decreases-loop-rounds : goal.decreases-loop-rounds
-decreases-loop-rounds l = l.rounds

@@ -1,22 +1,17 @@
--- `all_in_range` meets its contract.
-use mathlib.Core.Path.{refl}
-use native.Mathlib.Omega.{arith}
-use Rattle.soft.proofs.Range.{range_start, range_next, range_both}
+-- `all_in_range` meets its contract: the parts one after the other.
+use Rattle.std.proofs.Common.{◌≡◌, true, ◌&&◌, subst, refl, rules, ◌∙◌}
+use Rattle.std.specs.List.{fold}
+use Rattle.std.proofs.lemmas.Fn.{fold_over, slice_gives, fronts}
+use Rattle.std.proofs.lemmas.List.Sums.{fold_push}
+use Rattle.soft_theory.specs.Numbers.{f32}
+use Rattle.soft_theory.specs.Soft.{in_range}
+use Rattle.soft.proofs.Range.{fold_range}
 use Rattle.soft.proofs.all_in_range.Goals as goal
 
-pub loop-i-init : goal.loop-i-init
-loop-i-init c = (omega arith, refl, range_start _ _)
-
-pub part-requires-in-loop-i : goal.part-requires-in-loop-i
-part-requires-in-loop-i c = omega (arith, c.requires)
-
-pub loop-i-preserved : goal.loop-i-preserved
-loop-i-preserved c = (
-  omega arith,
-  refl,
-  range_next _ _ c.loop-i.i c.loop-i.all c.in_range.result c.in_range-in-loop-i.result c.part.result c.part-in-loop-i.result
-      c.loop-i.invariant.2 c.part.ensures c.in_range.ensures c.part-in-loop-i.ensures c.in_range-in-loop-i.ensures,
-)
-
 pub returns : goal.returns
-returns c = range_both _ _ c.loop-i.i c.loop-i.all c.loop-i.invariant.2 (omega arith) (omega (arith, c.requires))
+returns c =
+    subst (λ l. c.fold.result ≡ fold (λ b v. b && in_range f32 v) true l) c.iter.ensures.rest
+    (fold_over fronts (λ y. y.now) _ (λ ys a. a ≡ fold (λ b v. b && in_range f32 v) true ys) _
+    (λ ys a x b f' j k. let more = fold_push (λ b v. b && in_range f32 v) true ys x.now in search rules)
+    _ _ _ _ (slice_gives c.iter.result) refl c.fold.ensures.ran)
+    ∙ fold_range c.args.x.now

@@ -1,14 +1,13 @@
 -- `decide_both` meets its contract: the two decisions, one after the other.
-use Rattle.soft.proofs.ReadLaws.{tested, learnt, both_sure, both_found}
+use Rattle.soft.proofs.ReadLaws.{both_none, both_some}
 use Rattle.soft.proofs.decide_both.Goals as goal
 
+pub returns-in_err-a : goal.returns-in_err-a
+returns-in_err-a c =
+    rw c.from_residual.ensures
+    (both_none _ _ _ _ _ _ c.four_sums.ensures c.four_sums-2.ensures c.decision-a.ensures c.decision-b.ensures c.in_err-a.ensures)
+
 pub returns : goal.returns
-returns c = (
-  both_sure _ _ _ c.is_sure.result c.is_sure-2.result
-      (tested _ _ _ _ c.four_sums.ensures c.decision-a.ensures c.is_sure.ensures)
-      (tested _ _ _ _ c.four_sums-2.ensures c.decision-b.ensures c.is_sure-2.ensures),
-  λ e.
-      both_found _ _ _ c.symbol_of.result c.symbol_of-2.result c.args.found.now c.requires.1 c.requires.2
-      (learnt _ _ _ _ c.four_sums.ensures c.decision-a.ensures c.symbol_of.ensures)
-      (learnt _ _ _ _ c.four_sums-2.ensures c.decision-b.ensures c.symbol_of-2.ensures),
-)
+returns c =
+    both_some _ _ _ _ _ _ c.four_sums.ensures c.four_sums-2.ensures c.decision-a.ensures c.decision-b.ensures _ _ c.args.found.now
+    c.requires.1 c.requires.2 c.in_ok-a.ensures

@@ -1,64 +1,69 @@
 -- `soft_read` meets its contract: its ends are a no to the questions up to 10, an unsure decision, and the message.
-use mathlib.Core.Path.{refl, ap, sym, ◌∙◌}
-use mathlib.Core.Bool.{not}
+use mathlib.Core.Path.{refl, sym, ◌∙◌}
 use lib.Seq.{length-take-le}
-use Rattle.soft_theory.specs.Decision.{is_sure, symbol}
-use Rattle.soft.specs.Answers.{soft_answered}
+use Rattle.std.proofs.lemmas.Result.{err_from_is_err_and}
+use Rattle.code_questions.specs.Internal.{refusal}
 use Rattle.soft.proofs.Refusals.{read_accepted}
-use Rattle.soft.proofs.ReadLaws.{one_unsure, constant_unsure, all_yes, message_fits, message_is, read_out, read_unsure, read_sure}
+use Rattle.soft.proofs.ReadLaws.{read_out, read_sure, coefficients_out, coefficients_told, constant_out, constant_told, all_yes, message_fits, message_is, some_symbol}
 use Rattle.soft.proofs.soft_read.Goals as goal
 
-pub returns-then-number-ne0 : goal.returns-then-number-ne0
-unfolding soft_answered
-returns-then-number-ne0 c =
-    let p = read_out _ _ _ _ _ c.sample_refusal-number.ensures c.if-number-ne0.true in
-    record { answer = p.0; buffer = p.1 }
+pub returns-in_err-ask_samples : goal.returns-in_err-ask_samples
+unfolding refusal
+returns-in_err-ask_samples c =
+    let p = err_from_is_err_and c.from_residual.result c.from_residual.ensures.1 in
+    let o = read_out _ _ _ _ _ c.in_err-ask_samples.ensures in
+    record { answer = rw (p.1, p.2) o.0; buffer = o.1 }
+
+pub invariant_of-samples : goal.invariant_of-samples
+unfolding refusal
+invariant_of-samples c =
+    let s = (read_accepted _ _ _ _ (sym c.in_ok-ask_samples.ensures)).0 in
+    record { low = s.low; high = s.high; reals = s.reals; imaginaries = s.imaginaries }
 
 pub coefficients-requires : goal.coefficients-requires
-coefficients-requires c = ((read_accepted _ _ _ _ (sym c.sample_refusal-number.ensures ∙ c.if-number-ne0.false)).0, refl, refl)
+coefficients-requires c = (refl, refl)
 
-pub returns-then-not-coefficients : goal.returns-then-not-coefficients
-unfolding soft_answered
-returns-then-not-coefficients c =
-    let p = read_unsure _ _ _ _ _ c.sample_refusal-number.ensures c.if-number-ne0.false (one_unsure _ _ _ (sym c.if-not-coefficients.true ∙ c.coefficients.ensures.0)) in
-    record { answer = p.0; buffer = p.1 }
+pub returns-in_err-ok_or : goal.returns-in_err-ok_or
+unfolding refusal
+returns-in_err-ok_or c =
+    let p = err_from_is_err_and c.from_residual-in_err-ok_or.result c.from_residual-in_err-ok_or.ensures.1 in
+    let o = coefficients_out _ _ _ _ c.in_ok-ask_samples.ensures _ _ _ c.coefficients.ensures c.in_err-ok_or.ensures.value in
+    record { answer = rw (p.1, p.2) o.0; buffer = o.1 }
 
-pub constant-last-requires : goal.constant-last-requires
-constant-last-requires c =
-    ((read_accepted _ _ _ _ (sym c.sample_refusal-number.ensures ∙ c.if-number-ne0.false)).0, c.coefficients.ensures.1 c.if-not-coefficients.false)
+pub constant-requires : goal.constant-requires
+constant-requires c = (coefficients_told _ _ _ _ _ _ c.coefficients.ensures c.in_ok-ok_or.ensures.value).1
 
-pub returns-then-not-is_sure : goal.returns-then-not-is_sure
-unfolding soft_answered
-returns-then-not-is_sure c =
-    let p = read_unsure _ _ _ _ _ c.sample_refusal-number.ensures c.if-number-ne0.false
-    (constant_unsure _ _ _ c.is_sure.result (sym c.if-not-coefficients.false ∙ c.coefficients.ensures.0)
-    (c.is_sure.ensures ∙ ap is_sure c.constant-last.ensures) (ap not c.if-not-is_sure.true)) in
-    record { answer = p.0; buffer = p.1 }
+pub returns-in_err-found : goal.returns-in_err-found
+unfolding refusal
+returns-in_err-found c =
+    let p = err_from_is_err_and c.from_residual-in_err-found.result c.from_residual-in_err-found.ensures.1 in
+    let o = constant_out _ _ _ _ c.in_ok-ask_samples.ensures _ _ c.constant.ensures c.in_err-found.ensures.value in
+    record { answer = rw (p.1, p.2) o.0; buffer = o.1 }
 
 pub slice_bounds-found-end : goal.slice_bounds-found-end
+unfolding refusal
 slice_bounds-found-end c =
-    let (s, l) = read_accepted _ _ _ _ (sym c.sample_refusal-number.ensures ∙ c.if-number-ne0.false) in
-    message_fits _ _ _ _ _ c.symbol_of.result _ l s.high (c.coefficients.ensures.1 c.if-not-coefficients.false)
+    let (s, l) = read_accepted _ _ _ _ (sym c.in_ok-ask_samples.ensures) in
+    message_fits _ _ _ _ _ c.in_ok-found.field-0 _ l s.high (coefficients_told _ _ _ _ _ _ c.coefficients.ensures c.in_ok-ok_or.ensures.value).1
 
 pub slice_bounds-copy_from_slice-end : goal.slice_bounds-copy_from_slice-end
+unfolding refusal
 slice_bounds-copy_from_slice-end c =
-    let (s, l) = read_accepted _ _ _ _ (sym c.sample_refusal-number.ensures ∙ c.if-number-ne0.false) in
-    sym (length-take-le _ _ (message_fits _ _ _ _ _ c.symbol_of.result _ l s.high (c.coefficients.ensures.1 c.if-not-coefficients.false)))
+    let (s, l) = read_accepted _ _ _ _ (sym c.in_ok-ask_samples.ensures) in
+    sym (length-take-le _ _ (message_fits _ _ _ _ _ c.in_ok-found.field-0 _ l s.high (coefficients_told _ _ _ _ _ _ c.coefficients.ensures c.in_ok-ok_or.ensures.value).1))
 
 pub copy_from_slice-requires : goal.copy_from_slice-requires
+unfolding refusal
 copy_from_slice-requires c =
-    let (s, l) = read_accepted _ _ _ _ (sym c.sample_refusal-number.ensures ∙ c.if-number-ne0.false) in
-    sym (length-take-le _ _ (message_fits _ _ _ _ _ c.symbol_of.result _ l s.high (c.coefficients.ensures.1 c.if-not-coefficients.false)))
+    let (s, l) = read_accepted _ _ _ _ (sym c.in_ok-ask_samples.ensures) in
+    sym (length-take-le _ _ (message_fits _ _ _ _ _ c.in_ok-found.field-0 _ l s.high (coefficients_told _ _ _ _ _ _ c.coefficients.ensures c.in_ok-ok_or.ensures.value).1))
 
 pub returns : goal.returns
-unfolding soft_answered
+unfolding refusal
 returns c =
-    let (s, l) = read_accepted _ _ _ _ (sym c.sample_refusal-number.ensures ∙ c.if-number-ne0.false) in
-    let found = c.coefficients.ensures.1 c.if-not-coefficients.false in
-    let p = read_sure _ _ _ _ _ c.sample_refusal-number.ensures c.if-number-ne0.false
-    (all_yes _ _ _ c.is_sure.result (sym c.if-not-coefficients.false ∙ c.coefficients.ensures.0)
-    (c.is_sure.ensures ∙ ap is_sure c.constant-last.ensures) (ap not c.if-not-is_sure.false))
-    _
-    (c.copy_from_slice.ensures.after
-    ∙ message_is _ _ _ _ c.symbol_of.result _ l s.high found (c.symbol_of.ensures ∙ ap symbol c.constant-last.ensures)) in
-    record { answer = p.0; buffer = p.1 }
+    let (s, l) = read_accepted _ _ _ _ (sym c.in_ok-ask_samples.ensures) in
+    let (all, found) = coefficients_told _ _ _ _ _ _ c.coefficients.ensures c.in_ok-ok_or.ensures.value in
+    let last = constant_told _ _ _ c.constant.ensures c.in_ok-found.ensures.value in
+    let o = read_sure _ _ _ _ c.in_ok-ask_samples.ensures (all_yes _ _ _ _ all last) _
+    (c.copy_from_slice.ensures.after ∙ message_is _ _ _ _ c.in_ok-found.field-0 _ l s.high found (some_symbol _ _ last).1) in
+    record { answer = o.0; buffer = o.1 }

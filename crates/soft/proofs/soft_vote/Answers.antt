@@ -1,26 +1,26 @@
--- `soft_vote` meets its contract, by the number that the questions give.
+-- `soft_vote` meets its contract, by the answer to its questions.
 use mathlib.Core.Path.{sym, ◌∙◌}
-use native.Mathlib.Omega.{arith}
+use Rattle.code_questions.specs.Internal.{refusal}
+use Rattle.code_questions.specs.Refusal.{number}
+use Rattle.code_questions.proofs.RefusalLaws.{number_some}
 use Rattle.soft_decision.specs.Voted.{voted}
-use Rattle.soft.proofs.Refusals.{vote_accepted, vote_refused, vote_given, four_accepted, four_given}
+use Rattle.soft.proofs.Refusals.{vote_accepted, vote_refused, vote_given}
 use Rattle.soft.proofs.soft_vote.Goals as goal
 
-pub returns-then-number-ne0 : goal.returns-then-number-ne0
-unfolding voted
-returns-then-number-ne0 c = vote_refused _ _ _ _ c.vote_refusal-number.result c.vote_refusal-number.ensures c.if-number-ne0.true
+pub invariant_of-sums : goal.invariant_of-sums
+unfolding refusal
+invariant_of-sums c =
+    let s = (vote_accepted _ _ _ _ (sym c.in-Ok.ensures)).0 in
+    record { low = s.low; high = s.high; reals = s.reals; imaginaries = s.imaginaries }
 
-pub four_sums-requires : goal.four_sums-requires
-four_sums-requires c =
-    four_accepted _ _ _ _ (omega arith) (vote_accepted _ _ _ _ (sym c.vote_refusal-number.ensures ∙ c.if-number-ne0.false))
+pub sums-requires : goal.sums-requires
+unfolding refusal
+sums-requires c = (vote_accepted _ _ _ _ (sym c.in-Ok.ensures)).1
 
-pub returns-then-m-eq2 : goal.returns-then-m-eq2
-returns-then-m-eq2 c =
-    c.decision.ensures ∙ four_given _ _ _ _ (omega arith) c.vote_refusal-number.result c.vote_refusal-number.ensures c.if-number-ne0.false _ c.four_sums.ensures
+pub returns-in-Ok : goal.returns-in-Ok
+unfolding refusal
+returns-in-Ok c = c.vote.ensures ∙ vote_given _ _ _ _ c.in-Ok.ensures _ c.sums.ensures
 
-pub vote_sums-requires : goal.vote_sums-requires
-vote_sums-requires c =
-    vote_accepted _ _ _ _ (sym c.vote_refusal-number.ensures ∙ c.if-number-ne0.false)
-
-pub returns : goal.returns
-returns c =
-    c.decision-2.ensures ∙ vote_given _ _ _ _ c.vote_refusal-number.result c.vote_refusal-number.ensures c.if-number-ne0.false _ c.vote_sums.ensures
+pub returns-in-Err : goal.returns-in-Err
+unfolding refusal voted
+returns-in-Err c = vote_refused _ _ _ _ (number c.in-Err.refusal) c.in-Err.ensures (number_some c.in-Err.refusal)

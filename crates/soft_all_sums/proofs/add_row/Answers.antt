@@ -1,24 +1,27 @@
 -- `add_row` meets its contract.
-use mathlib.Core.Path.{ap, ap₂, ◌∙◌}
-use native.Mathlib.Omega.{arith}
+use mathlib.Core.Path.{ap₂, ◌∙◌}
+use lib.ListN.{length}
+use Rattle.std.proofs.lemmas.List.{length_push}
+use Rattle.std.proofs.lemmas.Slice.Zip.{zip_turn, zip_end}
 use Rattle.soft_theory.specs.Numbers.{f32}
-use Rattle.soft_theory.specs.Internal.{votes_to}
 use Rattle.soft_vote_sums.specs.Pair.{pair}
 use Rattle.soft_vote_sums.specs.Internal.{complex}
-use Rattle.soft_all_sums.proofs.RowLaws.{row_next}
+use Rattle.soft_all_sums.proofs.RowLaws.{row_next, row_end, eight_pairs}
 use Rattle.soft_all_sums.proofs.add_row.Goals as goal
 
-pub loop-x-init : goal.loop-x-init
-loop-x-init c = (omega arith, c.requires.4 ∙ ap (votes_to f32 _ _) (omega arith))
-
-pub loop-x-preserved : goal.loop-x-preserved
+pub loop-re-preserved : goal.loop-re-preserved
 unfolding pair
-loop-x-preserved c = (
-  omega arith,
-  row_next _ _ _ _ c.loop-x.x (pair c.loop-x.s) _ _ c.loop-x.invariant.1
-      (ap₂ complex c.part.ensures c.part-in-loop-x.ensures ∙ c.requires.3.each _ c.requires.1 c.requires.2 c.loop-x.x (omega arith))
-      c.add-s.ensures,
-)
+loop-re-preserved c =
+    let l = c.loop-re in
+    let t = zip_turn c.args.row.re c.args.row.im l.yielded c.into_iter-re-iterator.result l.re-iterator c.next.new.self c.next.result (cc) (cc) l.yielded_by (c.in-Some.re, c.in-Some.im) c.in-Some.is c.next.ensures.steps in
+    row_next _ _ _ _ (length l.yielded) _ (pair l.s) _ _ (length_push l.yielded (c.in-Some.re, c.in-Some.im)) l.invariant
+    (ap₂ complex (t.2 (f32.number 0)) (t.3 (f32.number 0)) ∙ c.requires.0.each (length l.yielded) (rw (← c.requires.0.reals) t.0))
+    c.add-s.ensures
 
 pub returns : goal.returns
-returns c = c.loop-x.invariant.1 ∙ ap (votes_to f32 _ _) (omega arith)
+returns c =
+    let l = c.loop-re in
+    row_end _ _ _ _ (length l.yielded) _
+    (zip_end c.args.row.re c.args.row.im l.yielded c.into_iter-re-iterator.result l.re-iterator c.next.new.self c.next.result (cc) (cc) l.yielded_by c.in-None.is c.next.ensures.steps
+    ∙ eight_pairs _ _ _ _ _ _ c.requires.0)
+    l.invariant

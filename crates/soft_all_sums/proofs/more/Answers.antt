@@ -7,13 +7,10 @@ use Rattle.soft_all_sums.proofs.more.Goals as goal
 
 pub nth_clear-requires : goal.nth_clear-requires
 nth_clear-requires c =
-    omega (arith, c.requires.1, c.requires.2, c.requires.0.high, c.requires.0.reals, pow_mono {i = c.args.m} {j = 8} c.requires.0.high)
-
-pub vote_at-requires : goal.vote_at-requires
-vote_at-requires c =
-    (c.requires.0, c.requires.1, c.requires.2, c.nth_clear.ensures)
+    let s = c.args.samples in
+    omega (arith, c.requires.0, c.requires.1, s.high, s.reals, pow_mono {i = s.m} {j = 8} s.high)
 
 pub returns : goal.returns
 unfolding votes_of
 returns c =
-    vote_next _ _ c.args.k c.args.j _ _ _ c.requires.3 c.vote_at.ensures c.add.ensures
+    vote_next _ _ c.args.k c.args.j _ _ _ c.requires.2 c.vote_at.ensures c.add.ensures

@@ -1,47 +1,34 @@
 -- `constant_sums` meets its contract.
-use Prim.Native.Nat.{◌+◌, ◌*◌}
 use mathlib.Core.Path.{refl}
 use native.Mathlib.Omega.{arith}
+use lib.ListN.{length, length-take}
 use lib.Pow.{pow_mono}
 use Rattle.soft_vote_sums.specs.Pair.{pair}
-use Rattle.soft_vote_sums.proofs.Steps.{even_samples}
-use Rattle.soft_constant_sums.proofs.TurnLaws.{turn_room, back_none, back_more, back_end}
+use Rattle.soft_vote_sums.proofs.Steps.{sized}
+use Rattle.soft_constant_sums.proofs.TurnLaws.{turn_read, back_none, back_next, back_plus, back_end}
 use Rattle.soft_constant_sums.proofs.constant_sums.Goals as goal
 
-pub loop-b-init : goal.loop-b-init
+pub slice_bounds-turn-items-end : goal.slice_bounds-turn-items-end
+slice_bounds-turn-items-end c =
+    let s = c.args.samples in
+    omega (arith, length-take (length s.re.now) c.args.turns.now, s.reals, s.high, c.requires.size, pow_mono {i = s.m} {j = 8} s.high)
+
+pub loop-i-init : goal.loop-i-init
 unfolding pair
-loop-b-init c = (omega arith, refl, back_none _ _ _ _)
+loop-i-init c = back_none _ _ _ _
 
-pub overflow_mul-i : goal.overflow_mul-i
-overflow_mul-i c =
-    omega (arith, c.requires.0.reals, pow_mono {i = c.args.m} {j = 8} c.requires.0.high)
+pub at-requires : goal.at-requires
+at-requires c = (turn_read _ _ _ _ _ (sized c.args.samples) c.requires c.loop-i.i c.loop-i-test.true).0
 
-pub turned-requires : goal.turned-requires
-turned-requires c =
-    turn_room _ _ _ _ _ c.requires.0 c.requires.1 (2 * c.loop-b.b) (omega arith)
+pub turn_back-requires : goal.turn_back-requires
+turn_back-requires c = (turn_read _ _ _ _ _ (sized c.args.samples) c.requires c.loop-i.i c.loop-i-test.true).1
 
-pub overflow_add-i : goal.overflow_add-i
-overflow_add-i c =
-    omega (arith, c.requires.0.reals, pow_mono {i = c.args.m} {j = 8} c.requires.0.high)
-
-pub turned-requires-in-loop-b : goal.turned-requires-in-loop-b
-turned-requires-in-loop-b c =
-    turn_room _ _ _ _ _ c.requires.0 c.requires.1 (2 * c.loop-b.b + 1) (omega arith)
-
-pub overflow_step-b : goal.overflow_step-b
-overflow_step-b c =
-    omega (arith, c.requires.0.reals, pow_mono {i = c.args.m} {j = 8} c.requires.0.high)
-
-pub loop-b-preserved : goal.loop-b-preserved
-loop-b-preserved c =
-    let l = c.loop-b in (
-      omega arith,
-      refl,
-      back_more _ _ _ _ l.b _ _ (pair l.all) (pair c.add-all.result) _ _ _ l.invariant.2
-          (c.requires.1.each (2 * l.b) (omega (arith, c.requires.0.reals))) c.turned.ensures c.add-all.ensures
-          (c.requires.1.each (2 * l.b + 1) (omega (arith, c.requires.0.reals))) c.turned-in-loop-b.ensures c.add-all-in-loop-b.ensures,
-    )
+pub loop-i-preserved : goal.loop-i-preserved
+loop-i-preserved c =
+    back_next _ _ _ _ c.loop-i.i _ (pair c.loop-i.all) _ (pair c.at.result) c.loop-i.invariant
+    (turn_read _ _ _ _ _ (sized c.args.samples) c.requires c.loop-i.i c.loop-i-test.true).2 c.at.ensures
+    (back_plus _ _ _ _ _ _ c.add-all.ensures c.turn_back.ensures refl)
 
 pub returns : goal.returns
 returns c =
-    back_end _ _ _ _ (2 * c.loop-b.b) _ c.loop-b.invariant.2 (even_samples c.args.m _ c.loop-b.b c.requires.0 (omega arith))
+    back_end _ _ _ _ c.loop-i.i _ c.loop-i.invariant (omega (arith, c.loop-i-test.false, length-take (length c.args.samples.re.now) c.args.turns.now, c.args.samples.reals, c.args.samples.high, c.requires.size, pow_mono {i = c.args.samples.m} {j = 8} c.args.samples.high))

@@ -1,55 +1,22 @@
--- `pack` meets its contract: what the questions give, and the five stores.
-use mathlib.Core.Path.{◌≡◌, sym, ap, ◌∙◌}
-use native.Mathlib.Omega.{arith}
-use lib.ListN.{length, length-set}
-use Rattle.code_theory.specs.Question.{refused}
-use Rattle.code_theory.proofs.QuestionLaws.{answer_yes, answer_no, after_yes, after_no}
-use Rattle.strap.specs.Strap.{pack_refusal, pack_answer, pack_message, packed}
+-- `pack` meets its contract: what the questions give, and the five numbers stored.
+use Rattle.std.proofs.Common.{refl, ◌∙◌}
+use Rattle.code_questions.proofs.RefusalLaws.{passed, passed_answer, passed_after, stopped_answer, stopped_after}
+use Rattle.code_questions.specs.Refusal.{no_values}
+use Rattle.strap.specs.Strap.{pack_answer, pack_message}
 use Rattle.strap.proofs.StrapLaws.{stored, packable}
 use Rattle.strap.proofs.pack.Goals as goal
 
-pub returns-then-number-ne0 : goal.returns-then-number-ne0
-unfolding pack_answer pack_message packed
-returns-then-number-ne0 c =
-    let a = c.args in
-    let e = c.pack_refusal-number.ensures in
-    record {
-      answer = ap refused e ∙ sym (answer_no (pack_refusal a.message.now a.zone) _ (λ z. c.if-number-ne0.true (e ∙ z)));
-      buffer = sym (after_no (pack_refusal a.message.now a.zone) _ a.message.now (λ z. c.if-number-ne0.true (e ∙ z)));
-    }
+pub returns-in_err-ask_pack : goal.returns-in_err-ask_pack
+unfolding pack_answer pack_message
+returns-in_err-ask_pack c =
+    let e = c.in_err-ask_pack.ensures in
+    record { answer = stopped_answer _ _ _ e _ _ _ c.from_residual.ensures.1; buffer = stopped_after _ _ _ e _ _ }
 
-pub bounds-message-0 : goal.bounds-message-0
-bounds-message-0 c =
-    let five : length c.args.message.now ≡ 5 = (packable _ _ (sym c.pack_refusal-number.ensures ∙ c.if-number-ne0.false)).0 in
-    omega (arith, five)
-
-pub bounds-message-1 : goal.bounds-message-1
-bounds-message-1 c =
-    let five : length c.args.message.now ≡ 5 = (packable _ _ (sym c.pack_refusal-number.ensures ∙ c.if-number-ne0.false)).0 in
-    simp length-set (omega (arith, five))
-
-pub bounds-message-2 : goal.bounds-message-2
-bounds-message-2 c =
-    let five : length c.args.message.now ≡ 5 = (packable _ _ (sym c.pack_refusal-number.ensures ∙ c.if-number-ne0.false)).0 in
-    simp length-set (omega (arith, five))
-
-pub bounds-message-3 : goal.bounds-message-3
-bounds-message-3 c =
-    let five : length c.args.message.now ≡ 5 = (packable _ _ (sym c.pack_refusal-number.ensures ∙ c.if-number-ne0.false)).0 in
-    simp length-set (omega (arith, five))
-
-pub bounds-message-4 : goal.bounds-message-4
-bounds-message-4 c =
-    let five : length c.args.message.now ≡ 5 = (packable _ _ (sym c.pack_refusal-number.ensures ∙ c.if-number-ne0.false)).0 in
-    simp length-set (omega (arith, five))
+pub copy_from_slice-requires : goal.copy_from_slice-requires
+copy_from_slice-requires c = (packable _ _ (passed _ _ c.in_ok-ask_pack.ensures)).0
 
 pub returns : goal.returns
-unfolding pack_answer pack_message packed
+unfolding pack_answer pack_message no_values
 returns c =
-    let five : length c.args.message.now ≡ 5 = (packable _ _ (sym c.pack_refusal-number.ensures ∙ c.if-number-ne0.false)).0 in
-    let a = c.args in
-    let n = sym c.pack_refusal-number.ensures ∙ c.if-number-ne0.false in
-    record {
-      answer = sym (answer_yes (pack_refusal a.message.now a.zone) _ n);
-      buffer = stored a.message.now a.rate a.zone five ∙ sym (after_yes (pack_refusal a.message.now a.zone) _ _ n);
-    }
+    let e = c.in_ok-ask_pack.ensures in
+    record { answer = passed_answer _ _ e _ _ _ refl; buffer = (c.copy_from_slice.ensures.after ∙ stored _ _) ∙ passed_after _ _ e _ _ }

@@ -1,27 +1,21 @@
 -- `unpack` meets its contract: what the questions give, the rate, and place 0.
-use mathlib.Core.Path.{sym, ap, ◌∙◌}
-use mathlib.Core.List.{[], ◌∷◌}
-use native.Mathlib.Omega.{arith}
+use Rattle.std.proofs.Common.{ap, [], ◌∷◌, arith}
 use Rattle.code_theory.specs.Sum.{at}
-use Rattle.code_theory.specs.Question.{accepted, refused}
-use Rattle.code_theory.proofs.QuestionLaws.{answer_yes, answer_no}
-use Rattle.strap.specs.Strap.{zone_of, unpack_refusal, unpack_answer, unpacked}
+use Rattle.code_questions.proofs.RefusalLaws.{passed, passed_answer, stopped_answer}
+use Rattle.strap.specs.Strap.{zone_of, unpack_answer, report_values}
 use Rattle.strap.proofs.StrapLaws.{unpackable}
 use Rattle.strap.proofs.unpack.Goals as goal
 
-pub returns-then-number-ne0 : goal.returns-then-number-ne0
-unfolding unpack_answer unpacked
-returns-then-number-ne0 c =
-    let e = c.unpack_refusal-number.ensures in
-    ap refused e ∙ sym (answer_no (unpack_refusal c.args.message.now) _ (λ z. c.if-number-ne0.true (e ∙ z)))
+pub returns-in_err-ask_unpack : goal.returns-in_err-ask_unpack
+unfolding unpack_answer
+returns-in_err-ask_unpack c = stopped_answer _ _ _ c.in_err-ask_unpack.ensures _ _ _ c.from_residual.ensures.1
+
+pub rate_of-requires : goal.rate_of-requires
+rate_of-requires c = passed _ _ c.in_ok-ask_unpack.ensures
 
 pub bounds-message-0 : goal.bounds-message-0
-bounds-message-0 c =
-    omega (arith, (unpackable c.args.message.now (sym c.unpack_refusal-number.ensures ∙ c.if-number-ne0.false)).size)
+bounds-message-0 c = omega (arith, (unpackable _ (passed _ _ c.in_ok-ask_unpack.ensures)).size)
 
 pub returns : goal.returns
-unfolding unpack_answer unpacked zone_of
-returns c =
-    let t = c.args.message.now in
-    ap (λ x. accepted (x ∷ at t 0 ∷ [])) c.rate_of-rate.ensures
-    ∙ sym (answer_yes (unpack_refusal t) _ (sym c.unpack_refusal-number.ensures ∙ c.if-number-ne0.false))
+unfolding unpack_answer report_values zone_of
+returns c = passed_answer _ _ c.in_ok-ask_unpack.ensures _ _ _ (ap (λ x. x ∷ at c.args.message.now 0 ∷ []) c.rate_of.ensures)

@@ -1,6 +1,7 @@
--- `put_four` meets its contract: two bytes, then the next two.
-use Rattle.swar_bytes.proofs.Parts.{put_join}
+-- `put_four` meets its contract: the part is written over with the library's bytes.
+use Rattle.std.proofs.Common.{arith, ap, take, ◌∙◌}
+use Rattle.swar_bytes.proofs.Parts.{put_part}
 use Rattle.swar_bytes.proofs.put_four.Goals as goal
 
 pub returns : goal.returns
-returns c = put_join 2 2 _ _ _ _ _ c.put_two.ensures c.put_two-2.ensures
+returns c = put_part 4 _ _ _ _ c.requires (omega arith) (c.copy_from_slice.ensures.after ∙ ap (take 4) c.to_le_bytes-bytes.ensures)

@@ -1,16 +1,13 @@
--- `line_length` meets its contract: byte by byte, to the first newline.
-use native.Mathlib.Omega.{arith}
-use Rattle.text_lines.proofs.EndingLaws.{line_here, line_on, line_none}
+-- `line_length` meets its contract: the place of the first newline, or the length.
+use Rattle.std.proofs.Common.{rules, tests, ◌∙◌, ap, unwrap_or, ◌==◌, length}
+use Rattle.std.proofs.lemmas.Iterator.{YieldsList-from_slice}
+use Rattle.std.proofs.lemmas.Iterator.Search.{position_from_yields_List}
+use Rattle.text_lines.proofs.EndingLaws.{line_found}
 use Rattle.text_lines.proofs.line_length.Goals as goal
 
-pub loop-i-init : goal.loop-i-init
-loop-i-init c = omega arith
-
-pub loop-i-preserved : goal.loop-i-preserved
-loop-i-preserved c = line_on _ _ (omega arith) c.if-b-eq10.false c.loop-i.invariant
-
-pub returns-then-b-eq10 : goal.returns-then-b-eq10
-returns-then-b-eq10 c = line_here _ _ (omega arith) c.if-b-eq10.true c.loop-i.invariant
-
 pub returns : goal.returns
-returns c = line_none _ _ (omega arith) c.loop-i.invariant
+returns c =
+    let bytes = c.args.bytes.now in
+    c.unwrap_or.ensures
+    ∙ ap (λ o. unwrap_or o (length bytes)) (position_from_yields_List (λ b. b == 10) _ _ _ c.position.ensures.ran (YieldsList-from_slice bytes c.iter.ensures.rest) (λ x b q k. search (rules, tests)))
+    ∙ line_found bytes

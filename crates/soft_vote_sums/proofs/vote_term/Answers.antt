@@ -1,9 +1,0 @@
--- `vote_term` meets its contract: the operations are those of the definition, in its order.
-use mathlib.Core.Path.{refl}
-use Rattle.soft_theory.specs.Complex.{term}
-use Rattle.soft_vote_sums.specs.Pair.{pair}
-use Rattle.soft_vote_sums.proofs.vote_term.Goals as goal
-
-pub returns : goal.returns
-unfolding pair term
-returns c = refl
