@@ -1,5 +1,5 @@
 -- What a way of moving a group answers and leaves. Assumes nothing.
-use Rattle.std.proofs.Common.{ℕ, ◌*◌, ◌/◌, ◌^◌, ◌≤◌, ◌<◌, ◌≡◌, Bool, true, false, List, refl, sym, ap, ◌∙◌, arith}
+use Rattle.std.proofs.Common.{ℕ, ◌*◌, ◌/◌, ◌^◌, ◌≤◌, ◌≡◌, Bool, true, false, List, refl, sym, ap, ◌∙◌, arith}
 use mathlib.Core.Path.{ap₂, subst, subst₂}
 use lib.Pow.{pow_pos}
 use Rattle.std.proofs.Math.Nat.{mul-div_cancel_left}
@@ -12,16 +12,11 @@ use Rattle.interleave_theory.specs.Group.{is_group, group_refusal}
 use Rattle.interleave_theory.specs.Internal.{moved_target, Checked}
 use Rattle.interleave_theory.proofs.GroupLaws.{group_yes, group_limit, sixteen_places, moved_checked}
 
--- a question that is answered no, or yes
+-- a question that is answered no
 pub no_asked : (b : Bool) (n : ℕ) (r : Refusal) → number r ≡ ask b n 0 → (b ≡ false) × (number r ≡ n)
 unfolding ask
 no_asked true n r e = absurd (omega (arith, e, number_some r))
 no_asked false n r e = (refl, e)
-
-pub yes_asked : (b : Bool) (n : ℕ) → 0 ≡ ask b n 0 → 0 < n → b ≡ true
-unfolding ask
-yes_asked true n e h = refl
-yes_asked false n e h = absurd (omega (arith, e, h))
 
 -- a refused call leaves the target as it was
 pub moved_no : (q m count a b : ℕ) (x t : List ℕ) (r : Refusal) → number r ≡ group_refusal q m count x t → (number r ≡ group_refusal q m count x t) × (t ≡ moved_target a b q m count x t)

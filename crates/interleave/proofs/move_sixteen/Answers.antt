@@ -2,10 +2,11 @@
 use Rattle.std.proofs.Common.{◌≡◌, true, sym, ◌∙◌, refl, arith}
 use Rattle.std.proofs.lemmas.Result.{err_from_is_err_and}
 use Rattle.code_questions.specs.Internal.{refusal}
+use Rattle.code_questions.proofs.RefusalLaws.{asked_yes}
 use Rattle.interleave_theory.specs.Group.{is_group}
 use Rattle.interleave_theory.proofs.RefusalLaws.{refused_14}
 use Rattle.interleave_theory.proofs.GroupLaws.{sixteen_places}
-use Rattle.interleave.proofs.WayLaws.{no_asked, yes_asked, moved_no, small_moves, square_moves, any_limit, any_moves}
+use Rattle.interleave.proofs.WayLaws.{no_asked, moved_no, small_moves, square_moves, any_limit, any_moves}
 use Rattle.interleave.proofs.move_sixteen.Goals as goal
 
 pub returns-then-count-eq2 : goal.returns-then-count-eq2
@@ -36,7 +37,7 @@ unfolding refusal
 any_size-requires g c =
     let s = c.args in
     let w = c.rows-rows.ensures in
-    let group : is_group s.count ≡ true = sym c.is_group.ensures ∙ yes_asked _ _ c.in_ok-ask.ensures (omega arith) in
+    let group : is_group s.count ≡ true = sym c.is_group.ensures ∙ asked_yes c.in_ok-ask.field-0 _ 13 c.in_ok-ask.ensures in
     (c.requires, any_limit s.q 4 s.count _ _ _ _ w.0 w.1 (g.met.W.Way.whole s.count 16) sixteen_places group)
 
 pub returns : goal.returns
@@ -44,6 +45,6 @@ unfolding refusal
 returns g c =
     let s = c.args in
     let w = c.rows-rows.ensures in
-    let group : is_group s.count ≡ true = sym c.is_group.ensures ∙ yes_asked _ _ c.in_ok-ask.ensures (omega arith) in
+    let group : is_group s.count ≡ true = sym c.is_group.ensures ∙ asked_yes c.in_ok-ask.field-0 _ 13 c.in_ok-ask.ensures in
     let p = any_moves s.q 4 s.count _ _ _ _ w.0 w.1 (g.met.W.Way.whole s.count 16) sixteen_places group _ _ c.requires _ _ c.any_size.ensures in
     record { answer = p.0; buffer = p.1 }
