@@ -12,6 +12,7 @@ use code_questions::{Refusal, ask};
 pub use decode_reading::Reading;
 
 // Write: fills the word with the message's codeword.
+#[tactic(auto, unfolding(crate::specs::Codec::encode_answer), using(code_questions::proofs::RefusalLaws::answered_none))]
 pub fn encode(q: u32, m: u32, message: &[u8], word: &mut [u8]) -> Result<(), Refusal>
     ensures answer { answered no_values result ≡ encode_answer q m message.now word.old }
     ensures buffer { word.new ≡ encode_word q m message.now word.old }

@@ -15,19 +15,28 @@ use Rattle.code_theory.proofs.SumLaws.{sum_ext, sum_next, sum_split}
 use Rattle.decode_near_places.specs.Internal.{differing}
 
 module _ (a b : List ℕ) where
-  pub none_yet : 0 ≡ differing a b 0 0
+  pub none_yet : (i : ℕ) → 0 ≡ differing a b i (i - i)
   unfolding differing sum
-  none_yet = refl
+  none_yet i = let e : i - i ≡ 0 = omega arith in sym (ap (λ n. differing a b i n) e)
 
-  -- one place more
-  pub one_more : (n x y : ℕ) → x ≡ at a n → y ≡ at b n → differing a b 0 (n + 1) ≡ differing a b 0 n + differ x y
+  -- the run from place f on, with place i after the places before it
+  pub one_more : (f i d : ℕ) → f ≤ i → d ≡ differ (at a i) (at b i) → differing a b f (i + 1 - f) ≡ differing a b f (i - f) + d
   unfolding differing
-  one_more n x y e f =
-      let p : n ≡ 0 + n = omega arith in
-      sum_next n _ ∙ ap (λ k. differing a b 0 n + k) (sym (ap₂ differ (e ∙ ap (at a) p) (f ∙ ap (at b) p)))
+  one_more f i d l h =
+      let n = i - f in
+      let e : i + 1 - f ≡ n + 1 = omega arith in
+      let p : i ≡ f + n = omega arith in
+      ap (λ k. differing a b f k) e ∙ sum_next n _ ∙ ap (λ x. differing a b f n + x) (sym (h ∙ ap (λ k. differ (at a k) (at b k)) p))
+
+  -- and the run from the first place on
+  pub next_more : (n x y : ℕ) → x ≡ at a n → y ≡ at b n → differing a b 0 (n + 1) ≡ differing a b 0 n + differ x y
+  next_more n x y e f =
+      let p : n + 1 ≡ n + 1 - 0 = omega arith in
+      let r : n - 0 ≡ n = omega arith in
+      ap (λ k. differing a b 0 k) p ∙ one_more 0 n (differ x y) (omega arith) (ap₂ differ e f) ∙ ap (λ k. differing a b 0 k + differ x y) r
 
   -- what is counted up to a place, and in a run from there on
-  run_more : (i n : ℕ) → differing a b 0 (i + n) ≡ differing a b 0 i + differing a b i n
+  pub run_more : (i n : ℕ) → differing a b 0 (i + n) ≡ differing a b 0 i + differing a b i n
   unfolding differing
   run_more i n = sum_split i n _ ∙ ap (λ x. differing a b 0 i + x) (sum_ext n _ _ (λ j l. ap (λ p. differ (at a p) (at b p)) (omega arith)))
 

@@ -117,6 +117,7 @@ fn candidate_32(q: u64, x: u64, y: u64) -> [u64; 6]
 pub fn candidate<const M: u32>(q: u64, x: u64, y: u64) -> [u64; 6]
     requires { (is_alphabet q ≡ true) × LanesBelow q x × LanesBelow q y × (2 ≤ M) × (M ≤ 5) }
     ensures symbols { CandidateOfBoth q M x y result }
+    ensures first { M ≤ 4 → CandidateOf q M x result }
     ensures zeros { drop (M + 1) result ≡ replicate (5 - M) 0 }
 {
     match M {

@@ -16,13 +16,14 @@ use Rattle.code_theory.specs.Modular.{sub_mod, differ}
 use Rattle.code_theory.specs.Code.{linear, symbol_at}
 use Rattle.code_theory.specs.Near.{distance}
 use Rattle.code_theory.specs.Question.{is_alphabet}
+use Rattle.code_theory.specs.Vote.{votes}
 use Rattle.code_theory.proofs.SumLaws.{sum_ext, sum_split}
 use Rattle.code_theory.proofs.IndexLaws.{second_low, second_set}
 use Rattle.code_theory.proofs.CodeLaws.{linear_low}
 use Rattle.code_theory.proofs.QuestionLaws.{alphabet_positive}
 use Rattle.code_theory.proofs.ModularLaws.{sub_mod_lt}
 use Rattle.code_theory.proofs.ErrorLaws.{error_distance}
-use Rattle.code_theory.specs.Internal.{error, WellFormed}
+use Rattle.code_theory.specs.Internal.{error, sum_from1, WellFormed}
 use Rattle.swar_theory.specs.Internal.{digit}
 use Rattle.swar_lanes.specs.Internal.{offset, lane_of, Lanes, LanesBelow, Held, place_of, places_of}
 use Rattle.code_theory.proofs.WordLaws.{bounds}
@@ -184,3 +185,9 @@ module _ (q m : ℕ) (w : List ℕ) (r : WellFormed q m w) (high : m ≤ 5) (x y
         ∙ sym (error_distance q m (at d) (at w) (alphabet_positive q r.alphabet) r.symbols.below);
     errors = both_errors;
   }
+
+-- the votes in the errors, where f is the first of their two numbers: what a count of the margin requires
+pub counted : (q m f first second wrong : ℕ) → f ≡ first → is_alphabet q ≡ true → LanesBelow q first → LanesBelow q second → 4 ≤ m → m ≤ 5
+    → ((k : ℕ) → k < m → sum_from1 (q - 1) (votes q m k (places_of first second)) ≤ wrong) → 4 * wrong < 2 ^ m
+    → (is_alphabet q ≡ true) × LanesBelow q f × LanesBelow q second × (4 ≤ m) × (m ≤ 5) × ((k : ℕ) → k < m → 4 * sum_from1 (q - 1) (votes q m k (places_of f second)) < 2 ^ m)
+counted q m f first second wrong e al x y l h b near = rw e (al, x, y, l, h, λ k j. omega (arith, b k j, near))

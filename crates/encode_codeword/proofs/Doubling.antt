@@ -1,6 +1,6 @@
 -- The places that a doubling fills, and the words that it makes. Assumes nothing.
 use Prim.Native.Nat.{ℕ, suc, ◌+◌, ◌*◌, ◌-◌, ◌%◌, ◌^◌, ◌≤◌, ◌<◌}
-use mathlib.Core.Path.{◌≡◌, ap, sym, ◌∙◌}
+use mathlib.Core.Path.{◌≡◌, ap, sym, ◌∙◌, subst}
 use mathlib.Core.Bool.{true}
 use mathlib.Core.List.{List, ◌++◌}
 use native.Mathlib.Numerals.{add-one}
@@ -66,6 +66,10 @@ doubled_halves q len a i w low u v e size same full f = rw e record {
       get_or-append_right low v j 0 (omega (arith, size)) ∙ f.rest (j - length low) (omega (arith, size, full))
       ∙ sym (get_or-append_right low u j 0 (omega (arith, size)));
 }
+
+-- a doubling by a number is one by any other that is equal to it
+pub doubled_by : (q len a b : ℕ) (w v : List ℕ) → a ≡ b → Doubled q len a w v → Doubled q len b w v
+doubled_by q len a b w v e t = subst (λ x. Doubled q len x w v) e t
 
 module _ (q k : ℕ) (s w v : List ℕ) (d : Coded q k s w) (t : Doubled q (2 ^ k) (at s (suc k)) w v) where
   low_half : (i : ℕ) → i < 2 ^ k → at v i ≡ symbol_at q (suc k) (at s) i

@@ -124,6 +124,13 @@ module _ (k n : ℕ) (s rest x next : List ℕ) (left : rest ≡ drop (k * n) s)
       place : (l : ℕ) → l < k → at x (0 + l) ≡ at s (k * n + l)
       place l h = ap (at x) (zero-add l) ∙ part_at l h
 
+-- what is told of a slice, and read from it, is so of one that is the same
+pub tells_same : (r : Bool) (q : ℕ) (x y : List ℕ) → Tells r q (length y) y 0 → y ≡ x → Tells r q (length x) x 0
+tells_same r q x y t e = subst (λ z. Tells r q (length z) z 0) e t
+
+pub bytes_same : (v : ℕ) (x y : List ℕ) → ((i : ℕ) → i < 8 → digit 8 v i ≡ at y (0 + i)) → y ≡ x → (i : ℕ) → i < 8 → digit 8 v i ≡ at x (0 + i)
+bytes_same v x y f e = subst (λ z. (i : ℕ) → i < 8 → digit 8 v i ≡ at z (0 + i)) e f
+
 -- where no part is left, all symbols are in one
 pub parts_end : (k n : ℕ) (s rest : List ℕ) → rest ≡ drop (k * n) s → k * n ≤ length s → length rest < k → length s % k ≡ 0 → k * n ≡ length s
 parts_end k n s rest left within few whole =

@@ -70,6 +70,7 @@ fn ask_square(q: u32, source: &[u8], target: &[u8]) -> Result<(), Refusal>
 }
 
 // A group of 2 * half symbols, at most 256, in 2^times rows.
+#[tactic(auto, unfolding(code_questions::specs::Internal::refusal), using(interleave_block::proofs::RoundLaws::divided, crate::proofs::SlicesLaws::sizes, crate::proofs::SlicesLaws::checked_no, crate::proofs::SlicesLaws::checked_yes))]
 pub fn small(
     q: u32,
     half: usize,
@@ -96,6 +97,7 @@ pub fn square(q: u32, source: &[u8], target: &mut [u8]) -> Result<(), Refusal>
 }
 
 // Rows of any number and length.
+#[tactic(auto, unfolding(code_questions::specs::Internal::refusal), using(crate::proofs::SlicesLaws::sizes, crate::proofs::SlicesLaws::checked_no, crate::proofs::SlicesLaws::checked_yes))]
 fn rows(q: u32, a: usize, b: usize, source: &[u8], target: &mut [u8]) -> Result<(), Refusal>
     requires { (is_alphabet q ≡ true) × (a * b ≤ 4096) }
     ensures { Checked q a b source.now target.old (refusal result) target.new }

@@ -1,6 +1,7 @@
 -- What the questions about a group say, and what both calls leave. Assumes nothing.
 use Prim.Native.Nat.{ℕ, ◌*◌, ◌^◌, ◌≤◌}
 use mathlib.Core.Path.{◌≡◌, refl, ap, ap₂, sym, ◌∙◌}
+use mathlib.Core.Logic.{◌≢◌}
 use mathlib.Core.Bool.{true, ◌&&◌}
 use mathlib.Core.List.{List}
 use native.Mathlib.Nat.{mul_comm, mul-le-mul_right}
@@ -10,7 +11,7 @@ use lib.Pow.{pow_mono}
 use lib.ListN.{length}
 use borrow.Author.Tests.{le-leb, leb-true, eqb-true}
 use Rattle.code_theory.specs.Question.{is_alphabet, is_variables, all_below, after}
-use Rattle.code_theory.proofs.QuestionLaws.{and_true, ask_yes, after_yes, variables_bounds}
+use Rattle.code_theory.proofs.QuestionLaws.{and_true, ask_yes, after_yes, after_no, variables_bounds}
 use Rattle.interleave_theory.specs.Place.{transposed, rearranged, put_back}
 use Rattle.interleave_theory.specs.Group.{is_group, is_group_size, group_refusal, rearrange_target, put_back_target}
 use Rattle.interleave_theory.specs.Internal.{slices_refusal, moved_target, Checked}
@@ -67,6 +68,16 @@ not_refused q m count source target g =
 
 -- what the two calls leave
 module _ (q m count : ℕ) (source target : List ℕ) where
+  module _ (number : ℕ) (e : number ≡ group_refusal q m count source target) (n : number ≢ 0) where
+    -- a refused call leaves the target as it was
+    pub rearrange_kept : target ≡ rearrange_target q m count source target
+    unfolding rearrange_target
+    rearrange_kept = sym (after_no _ _ target (λ z. n (e ∙ z)))
+
+    pub put_back_kept : target ≡ put_back_target q m count source target
+    unfolding put_back_target
+    put_back_kept = sym (after_no _ _ target (λ z. n (e ∙ z)))
+
   pub rearrange_moves : moved_target count (2 ^ m) q m count source target ≡ rearrange_target q m count source target
   unfolding moved_target rearrange_target
   rearrange_moves = refl

@@ -3,7 +3,7 @@ use Prim.Native.Nat.{ℕ, ◌*◌, ◌^◌}
 use mathlib.Core.Path.{◌≡◌, sym, ◌∙◌}
 use mathlib.Core.Bool.{true, false}
 use mathlib.Core.List.{List}
-use borrow.Author.Tests.{eq-eqb}
+use borrow.Author.Tests.{eq-eqb, ne_eqb}
 use lib.ListN.{length}
 use Rattle.code_theory.specs.Question.{is_alphabet, is_variables, all_below}
 use Rattle.code_theory.proofs.QuestionLaws.{ask_on, ask_no}
@@ -12,9 +12,23 @@ use Rattle.interleave_theory.specs.Internal.{slices_refusal}
 
 -- the slices: x is the source, t the target
 module _ (q size : ℕ) (x t : List ℕ) where
-  pub refused_none : length x ≡ size → length t ≡ size → all_below q x ≡ true → 0 ≡ slices_refusal q size x t
+  pub refused_source : (length x ≡ size → ⊥) → 7 ≡ slices_refusal q size x t
   unfolding slices_refusal
-  refused_none s d y = sym (ask_on _ _ _ (eq-eqb _ _ s) ∙ ask_on _ _ _ (eq-eqb _ _ d) ∙ ask_on _ _ _ y)
+  refused_source n = sym (ask_no _ _ _ (ne_eqb _ _ n))
+
+  module _ (s : length x ≡ size) where
+    pub refused_target : (length t ≡ size → ⊥) → 7 ≡ slices_refusal q size x t
+    unfolding slices_refusal
+    refused_target n = sym (ask_on _ _ _ (eq-eqb _ _ s) ∙ ask_no _ _ _ (ne_eqb _ _ n))
+
+    module _ (d : length t ≡ size) where
+      pub refused_below : all_below q x ≡ false → 8 ≡ slices_refusal q size x t
+      unfolding slices_refusal
+      refused_below n = sym (ask_on _ _ _ (eq-eqb _ _ s) ∙ ask_on _ _ _ (eq-eqb _ _ d) ∙ ask_no _ _ _ n)
+
+      pub refused_none : all_below q x ≡ true → 0 ≡ slices_refusal q size x t
+      unfolding slices_refusal
+      refused_none y = sym (ask_on _ _ _ (eq-eqb _ _ s) ∙ ask_on _ _ _ (eq-eqb _ _ d) ∙ ask_on _ _ _ y)
 
 -- the group
 module _ (q m count : ℕ) (x t : List ℕ) where

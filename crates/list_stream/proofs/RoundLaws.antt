@@ -10,6 +10,7 @@ use Rattle.text_buffer.specs.Text.{put}
 use Rattle.session_receiver.specs.declared.Receiver.{Receiver}
 use Rattle.text_chunks.specs.declared.Next.{Next}
 use Rattle.text_chunks.specs.Chunks.{Progress, fed, fed_text, fed_count, fed_part}
+use Rattle.text_chunks.specs.Kept.{Kept, kept_bytes}
 use Rattle.text_chunks.specs.Reading.{given, after_failure, after_part}
 use Rattle.text_chunks.specs.Internal.{rest_place}
 use Rattle.text_chunks.proofs.CountLaws.{count_le}
@@ -43,7 +44,7 @@ part_fed p bytes before after line n read written l next h a s c b w f e =
     }
 
 -- a round by its case
-module _ (l : Lister) (line line' chunk before after : List ℕ) (n : ℕ) (r : Round) where
+module _ (l : Lister) (line line' : Kept) (chunk before after : List ℕ) (n : ℕ) (r : Round) where
   -- what the round leaves where the read gave so much
   abbrev pub Leaves : Result ℕ ℤ → Type 0
   Leaves got = RoundOf got l line line' chunk n before after r
@@ -59,7 +60,7 @@ module _ (l : Lister) (line line' chunk before after : List ℕ) (n : ℕ) (r : 
   round_fits (Ok zero) g h t = (t.fit, t.room, omega (arith, ap rest_place t.then))
   round_fits (Ok (suc k)) g h t =
       let bytes = take (suc k) chunk in
-      let p = progress l line in
+      let p = progress l (kept_bytes line) in
       let size : length bytes ≡ suc k = length-take-le (suc k) chunk g in
       let count = fed_count reader p (length before) (drop n bytes) in
       let read : n + count ≤ length bytes = omega (arith, count_le reader p (length before) (drop n bytes), length-drop n bytes, size, h) in

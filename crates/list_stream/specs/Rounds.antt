@@ -5,6 +5,7 @@ use Rattle.session_receiver.specs.declared.Receiver.{Receiver}
 use Rattle.text_chunks.specs.declared.Next.{Next}
 use Rattle.text_chunks.specs.declared.Next.TheVariants.{End}
 use Rattle.text_chunks.specs.Chunks.{Progress, fed, fed_text, fed_count, fed_part, end_text}
+use Rattle.text_chunks.specs.Kept.{Kept, kept_bytes}
 use Rattle.text_chunks.specs.Reading.{after_failure, after_part}
 use Rattle.list_stream.specs.declared.Lister.{Lister}
 use Rattle.list_stream.specs.declared.Round.{Round}
@@ -19,8 +20,8 @@ pub record Part (p : Progress Receiver) (line bytes : List ℕ) (n : ℕ) (befor
   pub room : r.written ≤ length after
   pub fit : Fit r.lister
 
--- nothing is fed, and this text is to be written
-pub record Unfed (l : Lister) (line line' text before after : List ℕ) (next : Next) (r : Round) : Type 0 where
+-- nothing is fed, and this text is to be written; the whole slice that is lent for a line is as it was
+pub record Unfed (l : Lister) (line line' : Kept) (text before after : List ℕ) (next : Next) (r : Round) : Type 0 where
   pub lister : r.lister ≡ l
   pub kept : line' ≡ line
   pub count : r.written ≡ length text
@@ -30,7 +31,7 @@ pub record Unfed (l : Lister) (line line' text before after : List ℕ) (next : 
   pub fit : Fit r.lister
 
 -- ONE ROUND, by what the read gave: its error, no bytes, or some
-abbrev pub RoundOf : Result ℕ ℤ → Lister → List ℕ → List ℕ → List ℕ → ℕ → List ℕ → List ℕ → Round → Type 0
+abbrev pub RoundOf : Result ℕ ℤ → Lister → Kept → Kept → List ℕ → ℕ → List ℕ → List ℕ → Round → Type 0
 RoundOf (Err error) l line line' chunk n before after r = Unfed l line line' [] before after (after_failure error) r
-RoundOf (Ok zero) l line line' chunk n before after r = Unfed l line line' (end_text reader (progress l line)) before after End r
-RoundOf (Ok (suc k)) l line line' chunk n before after r = Part (progress l line) line' (take (suc k) chunk) n before after r
+RoundOf (Ok zero) l line line' chunk n before after r = Unfed l line line' (end_text reader (progress l (kept_bytes line))) before after End r
+RoundOf (Ok (suc k)) l line line' chunk n before after r = Part (progress l (kept_bytes line)) (kept_bytes line') (take (suc k) chunk) n before after r

@@ -5,6 +5,7 @@ ghost use Rattle.std.specs.Prelude.{◌≡◌, false, ◌≤◌, length, take};
 ghost use Rattle.text_buffer.specs.Text.{put};
 ghost use Rattle.list_line.specs.Listing.{opened};
 ghost use Rattle.text_chunks.specs.Chunks.{fed, fed_text, fed_count, end_text};
+ghost use Rattle.text_chunks.specs.Kept.{kept_bytes};
 ghost use Rattle.text_chunks.specs.Reading.{given};
 ghost use Rattle.list_stream.specs.Stream.{reader, progress, Fit};
 ghost use Rattle.list_stream.specs.Rounds.{Part, RoundOf};
@@ -73,7 +74,7 @@ fn after_line(listed: Listed, read: usize) -> Step
 // Reads to the end of the line, or of the bytes. A miss is listed where it stands.
 fn read_part(lister: Lister, line: &mut Line, bytes: &[u8], out: &mut [u8], at: usize) -> Step
     requires { Goes lister bytes.now out.old at }
-    ensures { Reads (progress lister line.old) bytes.now out.old at result line.new out.new }
+    ensures { Reads (progress lister (kept_bytes line.old)) bytes.now out.old at result (kept_bytes line.new) out.new }
 {
     let n = text_lines::line_length(bytes);
     if line.is_empty() && text_lines::has_miss(n, bytes) {
@@ -95,7 +96,7 @@ fn read_part(lister: Lister, line: &mut Line, bytes: &[u8], out: &mut [u8], at: 
 // Reads to the end of the line, or of the bytes. A slot is listed where it stands.
 fn read_line(lister: Lister, line: &mut Line, bytes: &[u8], out: &mut [u8], at: usize) -> Step
     requires { Goes lister bytes.now out.old at }
-    ensures { Reads (progress lister line.old) bytes.now out.old at result line.new out.new }
+    ensures { Reads (progress lister (kept_bytes line.old)) bytes.now out.old at result (kept_bytes line.new) out.new }
 {
     if line.is_empty() && text_lines::has_slot(bytes) {
         return after_line(
@@ -110,10 +111,10 @@ fn read_line(lister: Lister, line: &mut Line, bytes: &[u8], out: &mut [u8], at: 
 // which the buffer has no room for a line.
 fn feed(lister: Lister, line: &mut Line, chunk: &[u8], out: &mut [u8]) -> Fed
     requires { Fit lister }
-    ensures state { progress result.lister line.new ≡ fed reader (progress lister line.old) (take result.read chunk.now) }
-    ensures count { result.written ≡ length (fed_text reader (progress lister line.old) (take result.read chunk.now)) }
-    ensures buffer { out.new ≡ put out.old 0 (fed_text reader (progress lister line.old) (take result.read chunk.now)) }
-    ensures read { result.read ≡ fed_count reader (progress lister line.old) (length out.old) chunk.now }
+    ensures state { progress result.lister (kept_bytes line.new) ≡ fed reader (progress lister (kept_bytes line.old)) (take result.read chunk.now) }
+    ensures count { result.written ≡ length (fed_text reader (progress lister (kept_bytes line.old)) (take result.read chunk.now)) }
+    ensures buffer { out.new ≡ put out.old 0 (fed_text reader (progress lister (kept_bytes line.old)) (take result.read chunk.now)) }
+    ensures read { result.read ≡ fed_count reader (progress lister (kept_bytes line.old)) (length out.old) chunk.now }
     ensures bounds { (result.read ≤ length chunk.now) × (result.written ≤ length out.new) }
     ensures fit { Fit result.lister }
 {
@@ -136,8 +137,8 @@ fn feed(lister: Lister, line: &mut Line, chunk: &[u8], out: &mut [u8]) -> Fed
 // Lists the last line, which lacks its newline, at the end of the input.
 fn finish(lister: Lister, line: &Line, out: &mut [u8]) -> usize
     requires { Fit lister × (64 ≤ length out.old) }
-    ensures count { result ≡ length (end_text reader (progress lister line.now)) }
-    ensures buffer { out.new ≡ put out.old 0 (end_text reader (progress lister line.now)) }
+    ensures count { result ≡ length (end_text reader (progress lister (kept_bytes line.now))) }
+    ensures buffer { out.new ≡ put out.old 0 (end_text reader (progress lister (kept_bytes line.now))) }
     ensures bound { result ≤ length out.new }
 {
     if lister.over {
@@ -160,7 +161,7 @@ pub struct Round {
 // Lists the bytes from a place on, as far as the output has room.
 fn list_part(lister: Lister, line: &mut Line, bytes: &[u8], at: usize, out: &mut [u8]) -> Round
     requires { Fit lister × (at ≤ length bytes.now) }
-    ensures { Part (progress lister line.old) line.new bytes.now at out.old out.new result }
+    ensures { Part (progress lister (kept_bytes line.old)) (kept_bytes line.new) bytes.now at out.old out.new result }
 {
     let fed = feed(lister, line, &bytes[at..], out);
     Round {

@@ -3,7 +3,8 @@
 // ends the list and says so on standard error: a list that is cut short looks like a whole one.
 #![tactic(auto)]
 
-ghost use Rattle.std.specs.Prelude.{◌≡◌, ◌≤◌, length, is_some, IfSome};
+ghost use Rattle.std.specs.Prelude.{◌≡◌, ◌≤◌, [], length, is_some, IfSome};
+ghost use Rattle.text_chunks.specs.Kept.{kept_bytes};
 ghost use Rattle.text_chunks.specs.Reading.{given};
 ghost use Rattle.text_chunks.specs.Internal.{rest_place, goes_on, IfRest};
 
@@ -85,9 +86,10 @@ fn write(rt: &HostRuntime, out: &[u8], n: usize) -> bool
     }
 }
 
-// Lists the input. A proved loop has to end, so it takes no more rounds than a number that no run uses up.
+// Lists the input from its first byte on, with no line begun. A proved loop has to end, so it takes no more rounds than a number that no run
+// uses up.
 fn list_all(rt: &HostRuntime, chunk: &mut [u8], line: &mut Line, out: &mut [u8])
-    requires { 64 ≤ length out.old }
+    requires { (kept_bytes line.old ≡ []) × (64 ≤ length out.old) }
 {
     let mut lister = list_stream::start();
     let mut place = read(rt, chunk);
@@ -106,7 +108,7 @@ fn list_all(rt: &HostRuntime, chunk: &mut [u8], line: &mut Line, out: &mut [u8])
 
 // Writes the header, and lists the input.
 fn list_session(rt: &HostRuntime, chunk: &mut [u8], line: &mut Line, out: &mut [u8])
-    requires { 64 ≤ length out.old }
+    requires { (kept_bytes line.old ≡ []) × (64 ≤ length out.old) }
 {
     let written = list_line::put_header(out, 0);
     if !write(rt, out, written) {

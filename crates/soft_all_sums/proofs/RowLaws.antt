@@ -124,6 +124,10 @@ held_is [] l d h = absurd (not-suc-le-zero h)
 held_is (x ∷ s) zero d h = refl
 held_is (x ∷ s) (suc l) d h = held_is s l d (le_of_suc-le-suc h)
 
+-- sums of one coefficient, by any text of its number
+pub votes_as : (re im : List Float) (j k l : ℕ) (z : Complex Float) → k ≡ l → z ≡ votes_of re im j k → z ≡ votes_of re im j l
+votes_as re im j k l z e f = f ∙ ap (votes_of re im j) e
+
 module _ (m : ℕ) (re im : List Float) where
   -- the sums of each coefficient from low on, with more votes
   pub sums_more : (low j k : ℕ) (s u : List Sums) → k ≡ m → Past m s → Stored (votes_of re im j) low s u k → SumsTo low re im j u m

@@ -8,7 +8,7 @@ use lib.IntN.{pos}
 use lib.Ieee.{Float, binary32, of_bits, of_int, mul, neg, lt, le}
 use Rattle.soft_theory.specs.Numbers.{f32}
 use Rattle.soft_theory.specs.Complex.{Complex}
-use Rattle.soft_theory.specs.Decision.{sure, unsure, magnitude, is_decisive, decide_by, decide}
+use Rattle.soft_theory.specs.Decision.{Decision, sure, unsure, refused, magnitude, is_decisive, decide_by, decide, is_sure, symbol}
 use Rattle.soft_vote_sums.proofs.Steps.{zero_bits}
 use Rattle.soft_decision.specs.Internal.{sure_symbol}
 
@@ -51,39 +51,27 @@ module _ (z : Complex Float) (x y : Float) (t : Bool) (X : x ≡ magnitude f32 z
       ordered true = ap₂ (λ a b. cond (is_decisive f32 a b) (sure (symbol_of true) z) (unsure z)) Y X
       ordered false = ap₂ (λ a b. cond (is_decisive f32 a b) (sure (symbol_of false) z) (unsure z)) X Y
 
-  pub by_unsure : not t ≡ true → None ≡ sure_symbol (decide f32 z)
-  unfolding sure_symbol
-  by_unsure e =
-      ap sure_symbol (ap (λ v. cond v (sure (symbol_of (lt x y)) z) (unsure z)) (sym (not-true t e)) ∙ by_test (lt x y) refl)
+  pub by_unsure : not t ≡ true → unsure z ≡ decide f32 z
+  by_unsure e = ap (λ v. cond v (sure (symbol_of (lt x y)) z) (unsure z)) (sym (not-true t e)) ∙ by_test (lt x y) refl
 
   -- the symbols a by the real sum and b by the imaginary one, and the one that is picked
   pub by_sure : not t ≡ false → (a b c : ℕ) → a ≡ cond (lt (of_bits binary32 0) z.re) 0 2 → b ≡ cond (lt (of_bits binary32 0) z.im) 1 3 → c ≡ cond (lt x y) b a
-      → Some c ≡ sure_symbol (decide f32 z)
-  unfolding symbol_of sure_symbol
+      → sure c z ≡ decide f32 z
+  unfolding symbol_of
   by_sure e a b c A B C =
-      ap Some (C ∙ ap₂ (cond (lt x y)) (B ∙ by_sign z.im 1 3) (A ∙ by_sign z.re 0 2))
-      ∙ ap sure_symbol (ap (λ v. cond v (sure (symbol_of (lt x y)) z) (unsure z)) (sym (not-false t e)) ∙ by_test (lt x y) refl)
+      ap (λ n. sure n z) (C ∙ ap₂ (cond (lt x y)) (B ∙ by_sign z.im 1 3) (A ∙ by_sign z.re 0 2))
+      ∙ ap (λ v. cond v (sure (symbol_of (lt x y)) z) (unsure z)) (sym (not-false t e))
+      ∙ by_test (lt x y) refl
 
--- the decision by the sums z hands them back
-module _ (z : Complex Float) where
-  pub told_sure : (k : ℕ) → Some k ≡ sure_symbol (decide f32 z) → sure k z ≡ decide f32 z
-  unfolding decide decide_by sure_symbol
-  told_sure k e = go _ _ _ _ _ e
-    where
-      go : (a b c : Bool) (m n : ℕ) → Some k ≡ sure_symbol (cond a (cond b (sure m z) (unsure z)) (cond c (sure n z) (unsure z)))
-          → sure k z ≡ cond a (cond b (sure m z) (unsure z)) (cond c (sure n z) (unsure z))
-      go true true c m n e = cc
-      go true false c m n e = cc
-      go false b true m n e = cc
-      go false b false m n e = cc
+-- ---- the symbol that a decision tells
+pub told_sure : (d : Decision Float) (k : ℕ) → is_sure d ≡ true → k ≡ symbol d → Some k ≡ sure_symbol d
+unfolding is_sure symbol sure_symbol
+told_sure (sure s z) k e f = ap Some f
+told_sure (unsure z) k e f = absurd (cc)
+told_sure (refused n) k e f = absurd (cc)
 
-  pub told_unsure : None ≡ sure_symbol (decide f32 z) → unsure z ≡ decide f32 z
-  unfolding decide decide_by sure_symbol
-  told_unsure e = go _ _ _ _ _ e
-    where
-      go : (a b c : Bool) (m n : ℕ) → None ≡ sure_symbol (cond a (cond b (sure m z) (unsure z)) (cond c (sure n z) (unsure z)))
-          → unsure z ≡ cond a (cond b (sure m z) (unsure z)) (cond c (sure n z) (unsure z))
-      go true true c m n e = cc
-      go true false c m n e = refl
-      go false b true m n e = cc
-      go false b false m n e = refl
+pub told_unsure : (d : Decision Float) → is_sure d ≡ false → None ≡ sure_symbol d
+unfolding is_sure sure_symbol
+told_unsure (sure s z) e = absurd (cc)
+told_unsure (unsure z) e = refl
+told_unsure (refused n) e = refl

@@ -3,7 +3,7 @@
 
 ghost use Rattle.std.specs.Prelude.{◌≡◌, cond};
 ghost use Rattle.soft_theory.specs.Numbers.{f32};
-ghost use Rattle.soft_theory.specs.Decision.{magnitude, is_decisive, decide};
+ghost use Rattle.soft_theory.specs.Decision.{magnitude, is_decisive, decide, is_sure, symbol};
 ghost use Rattle.soft_vote_sums.specs.Pair.{pair};
 ghost use Rattle.soft_decision.specs.Voted.{voted};
 ghost use Rattle.soft_decision.specs.Internal.{sure_symbol};
@@ -43,27 +43,52 @@ fn is_decisive(a: f32, b: f32) -> bool
     larger > 0.0 && 3.0 * pick(a < b, a, b) <= 2.0 * larger
 }
 
-// The decision by both sums: the symbol where it is sure. Which sum is larger, and which sign it has, are as good as random from word to
-// word, so both symbols are worked out and one is picked.
-pub fn decision(s: Sums) -> Option<u8>
-    ensures { result ≡ sure_symbol (decide f32 (pair s)) }
+// The decision by both sums. Which sum is larger, and which sign it has, are as good as random from word to word, so both symbols are
+// worked out and one is picked.
+pub fn decision(s: Sums) -> SoftVote
+    ensures { voted result ≡ decide f32 (pair s) }
 {
     let a = magnitude(s.re);
     let b = magnitude(s.im);
     if !is_decisive(a, b) {
-        return None;
+        return SoftVote::Unsure(s);
     }
     let real = pick(s.re > 0.0, 0, 2);
     let imaginary = pick(s.im > 0.0, 1, 3);
-    Some(pick(a < b, imaginary, real))
+    SoftVote::Sure(pick(a < b, imaginary, real), s)
 }
 
-// The answer of one soft vote by its sums: the decision beside them.
-pub fn vote(s: Sums) -> SoftVote
-    ensures { voted result ≡ decide f32 (pair s) }
+// Whether a decision is sure.
+pub fn is_sure(vote: SoftVote) -> bool
+    ensures { result ≡ is_sure (voted vote) }
 {
-    match decision(s) {
-        Some(symbol) => SoftVote::Sure(symbol, s),
-        None => SoftVote::Unsure(s),
+    match vote {
+        SoftVote::Sure(_, _) => true,
+        SoftVote::Unsure(_) => false,
+        SoftVote::Refused(_) => false,
+    }
+}
+
+// The symbol of a sure decision.
+pub fn symbol_of(vote: SoftVote) -> u8
+    ensures { result ≡ symbol (voted vote) }
+{
+    match vote {
+        SoftVote::Sure(symbol, _) => symbol,
+        SoftVote::Unsure(_) => 0,
+        SoftVote::Refused(_) => 0,
+    }
+}
+
+impl SoftVote {
+    // The symbol where the decision is sure.
+    pub fn symbol(self) -> Option<u8>
+        ensures { result ≡ sure_symbol (voted self) }
+    {
+        if is_sure(self) {
+            Some(symbol_of(self))
+        } else {
+            None
+        }
     }
 }

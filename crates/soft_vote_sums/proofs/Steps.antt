@@ -14,7 +14,7 @@ use Rattle.code_theory.proofs.IndexLaws.{nth_partner_lt}
 use Rattle.soft_theory.specs.Numbers.{f32}
 use Rattle.soft_theory.specs.Complex.{Complex, sample, term, plus}
 use Rattle.soft_theory.specs.Soft.{vote_sums}
-use Rattle.soft_theory.proofs.SumsLaws.{sums_none, sums_next, votes_all, within}
+use Rattle.soft_theory.proofs.SumsLaws.{sums_none, sums_next, votes_all}
 use Rattle.soft_theory.specs.Internal.{votes_to}
 use Rattle.soft_vote_sums.specs.declared.Samples.{Samples}
 use Rattle.soft_vote_sums.specs.Internal.{complex, Sized, vote_at}
@@ -53,10 +53,10 @@ even_samples m re b s e = go m s.low s.reals
 pub sized : (s : Samples) → Sized s.m s.re.now s.im.now
 sized s = record { low = s.low; high = s.high; reals = s.reals; imaginaries = s.imaginaries }
 
--- what the code reads at i is the sample at i: within a list no default is read
-pub sample_at : (re im : List Float) (i : ℕ) (d e : Float) → (i < length re) × (i < length im) → complex (get_or re i d) (get_or im i e) ≡ sample f32 re im i
+-- what the code read at i is the sample at i
+pub sample_is : (re im : List Float) (i : ℕ) (x y : Float) → x ≡ get_or re i (of_int binary32 (pos 0)) → y ≡ get_or im i (of_int binary32 (pos 0)) → complex x y ≡ sample f32 re im i
 unfolding sample
-sample_at re im i d e h = ap₂ complex (within re i d _ h.0) (within im i e _ h.1)
+sample_is re im i x y e f = ap₂ complex e f
 
 pub votes_none : (re im : List Float) (k : ℕ) → complex (of_bits binary32 0) (of_bits binary32 0) ≡ votes_to f32 k (sample f32 re im) 0
 unfolding votes_to

@@ -1,7 +1,7 @@
 // Soft samples, and the two sums of the votes for one coefficient, q = 4.
 #![tactic(auto)]
 
-ghost use Rattle.std.specs.Prelude.{◌≡◌, ◌^◌, ◌/◌, ◌<◌, ◌≤◌, length};
+ghost use Rattle.std.specs.Prelude.{◌≡◌, ◌^◌, ◌/◌, ◌<◌, ◌≤◌, length, get_or};
 ghost use Rattle.code_theory.specs.Internal.{nth_clear};
 ghost use Rattle.soft_theory.specs.Numbers.{f32};
 ghost use Rattle.soft_theory.specs.Complex.{sample, term, plus};
@@ -56,6 +56,14 @@ pub struct Samples<'a> {
     pub ghost imaginaries: { length im.now ≡ 2 ^ m },
 }
 
+// The part at index i.
+pub fn part(x: &[f32], i: usize) -> f32
+    requires { i < length x.now }
+    ensures { result ≡ get_or x.now i (f32.number 0) }
+{
+    x[i]
+}
+
 impl<'a> Samples<'a> {
     // The sample at index i.
     pub fn at(self, i: usize) -> Sums
@@ -63,8 +71,8 @@ impl<'a> Samples<'a> {
         ensures { pair result ≡ sample f32 self.entry.re.now self.entry.im.now i }
     {
         Sums {
-            re: self.re[i],
-            im: self.im[i],
+            re: part(self.re, i),
+            im: part(self.im, i),
         }
     }
 
@@ -84,8 +92,8 @@ impl<'a> Samples<'a> {
         ensures { pair result ≡ term f32 (sample f32 yr.now yi.now i) (sample f32 self.entry.re.now self.entry.im.now i) }
     {
         let y = Sums {
-            re: yr[i],
-            im: yi[i],
+            re: part(yr, i),
+            im: part(yi, i),
         };
         y.vote_term(self.at(i))
     }

@@ -1,6 +1,6 @@
 -- Pieces of text put into a buffer one after the other are put as one. Assumes nothing.
 use Prim.Native.Nat.{ℕ, ◌+◌, ◌≤◌, ◌<◌}
-use mathlib.Core.Path.{◌≡◌, refl, ap, sym, ◌∙◌}
+use mathlib.Core.Path.{◌≡◌, ap, ap₂, sym, ◌∙◌}
 use mathlib.Core.List.{List, [], ◌∷◌, ◌++◌, append_assoc}
 use native.Mathlib.Nat.{add-zero, add_assoc}
 use native.Mathlib.Numerals.{add-one}
@@ -8,8 +8,6 @@ use native.Mathlib.Omega.{arith}
 use lib.ListN.{length, take, drop, set, get_or, length-append, length-take, length-drop, take-append-drop}
 use lib.Seq.{set_split, take_at, drop_at, drop-drop, length-take-le, take-suc, take-append-le, take-take}
 use borrow.Rule.Slice.PartMut.{put_mid}
-use Rattle.std.proofs.lemmas.Slice.{put_mid-paste}
-use Rattle.std.proofs.lemmas.List.Edits.{paste_all}
 use Rattle.text_buffer.specs.Text.{put}
 
 -- nothing put changes nothing
@@ -83,10 +81,11 @@ put_two b at x y v w h e f =
     ap (λ l. set l (at + 1) y) (put_one b at x (omega arith)) ∙ put_next b at (x ∷ []) y (omega arith)
     ∙ ap (λ z. put b at (z ∷ y ∷ [])) e ∙ ap (λ z. put b at (v ∷ z ∷ [])) f
 
--- a text copied over the k bytes from a place on
-pub put_copy : (b : List ℕ) (at k : ℕ) (t new : List ℕ) → length t ≡ k → new ≡ t → put_mid at k b new ≡ put b at t
+-- a text copied over the k bytes from a place on, whatever stood there before
+pub put_copy : (b c : List ℕ) (at k : ℕ) (t new : List ℕ) → length t ≡ k → new ≡ t → take at c ≡ take at b → drop k (drop at c) ≡ drop (at + k) b
+    → put_mid at k c new ≡ put b at t
 unfolding put
-put_copy b at k t new n e = put_mid-paste at k b new t (length t) e n refl ∙ paste_all b at t (length t) refl
+put_copy b c at k t new n e f g = ap₂ (λ x y. x ++ y) f (ap₂ (λ x y. x ++ y) e (g ∙ ap (λ m. drop (at + m) b) (sym n)))
 
 -- the next byte of a text stored behind those before it
 pub put_byte : (b out : List ℕ) (at : ℕ) (t : List ℕ) (i : ℕ) → at + length t ≤ length b → i < length t → out ≡ put b at (take i t)

@@ -1,7 +1,8 @@
 // An input that comes in chunks becomes lines: what every program that reads lines shares, whatever it makes of them.
 #![tactic(auto)]
 
-ghost use Rattle.std.specs.Prelude.{◌≡◌, ◌≤◌, ◌↔◌, ℕ, List, [], IsTrue, length, take};
+ghost use Rattle.std.specs.Prelude.{◌≡◌, ◌≤◌, ◌↔◌, [], IsTrue, length};
+ghost use Rattle.text_chunks.specs.Kept.{kept_bytes};
 ghost use Rattle.text_chunks.specs.Internal.{keep_all};
 ghost use Rattle.text_chunks.specs.Reading.{after_failure, after_part};
 
@@ -10,7 +11,8 @@ use std::marker::Model;
 // The error of a call that a signal interrupted.
 const EINTR: i32 = 4;
 
-// The bytes that are kept of a line that has begun, in a lent slice of 17 bytes: so many tell what any line says.
+// The bytes that are kept of a line that has begun, in a lent slice of 17 bytes: so many tell what any line says. A contract sees the whole
+// slice, and how many of its bytes are kept.
 #[derive(Drop)]
 pub struct Line<'a> {
     bytes: &'a mut [u8],
@@ -18,9 +20,12 @@ pub struct Line<'a> {
 }
 
 impl<'a> Model for Line<'a> {
-    ghost Value = { List ℕ };
+    ghost use Rattle.std.specs.Prelude.{◌≡◌, ◌≤◌, length};
+    ghost use Rattle.text_chunks.specs.Kept.{Kept};
 
-    ghost view = { λ l. take l.len l.bytes.now };
+    ghost Value = { Kept };
+
+    ghost view = { λ l. record { bytes = l.bytes.now; len = l.len } };
 
     ghost invariant = { λ l. (l.len ≤ 17) × (length l.bytes.now ≡ 17) };
 }
@@ -29,32 +34,32 @@ impl<'a> Line<'a> {
     // No byte is kept yet.
     pub fn new(bytes: &'a mut [u8]) -> Line<'a>
         requires { length bytes.old ≡ 17 }
-        ensures { result ≡ [] }
+        ensures { result ≡ record { bytes = bytes.old; len = 0 } }
     {
         Line { bytes, len: 0 }
     }
 
     pub fn is_empty(&self) -> bool
-        ensures { IsTrue result ↔ (self.now ≡ []) }
+        ensures { IsTrue result ↔ (kept_bytes self.now ≡ []) }
     {
         self.len == 0
     }
 
     pub fn as_slice(&self) -> &[u8]
-        ensures { result.now ≡ self.now }
+        ensures { result.now ≡ kept_bytes self.now }
     {
         &self.bytes[..self.len]
     }
 
     pub fn clear(&mut self)
-        ensures { self.new ≡ [] }
+        ensures { self.new ≡ record { bytes = self.old.bytes; len = 0 } }
     {
         self.len = 0;
     }
 
     // Keeps more bytes, as far as there is room for them.
     pub fn keep(&mut self, part: &[u8])
-        ensures { self.new ≡ keep_all self.old part.now }
+        ensures { kept_bytes self.new ≡ keep_all (kept_bytes self.old) part.now }
     {
         let more = (17 - self.len).min(part.len());
         self.bytes[self.len..self.len + more].copy_from_slice(&part[..more]);

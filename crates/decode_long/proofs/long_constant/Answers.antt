@@ -28,23 +28,7 @@ difference_tally-t-requires c =
       omega (arith, x1.size, h, s),
     )
 
-pub difference_tally-u-requires : goal.difference_tally-u-requires
-difference_tally-u-requires c =
-    let k = c.requires.0 in
-    let n = c.pow2.ensures in
-    let h = c.pow2-half.ensures in
-    let s = few _ _ _ k _ n in
-    let y = code_within _ _ _ k _ n _ _ c.requires.3 c.load.ensures in
-    let x2 = part_second c.pow2-half.result _ c.args.x.now _ (omega (arith, h, s)) (omega arith) c.split_at.ensures.back in
-    let y2 = part_second c.pow2-half.result _ c.load.new.x _ (omega (arith, h, s, c.load.ensures.size, c.requires.3.size)) (omega arith) c.split_at-2.ensures.back in (
-      k.alphabet,
-      part_below _ _ _ _ _ x2 (omega (arith, h, s)) c.requires.2,
-      part_below _ _ _ _ _ y2 (omega (arith, h, s)) y,
-      c.requires.1,
-      omega (arith, x2.size, y2.size),
-      omega (arith, x2.size, h, s),
-    )
-
+-- It stands before what the second tally requires: the two fronts meet that too, and what is false of them is this.
 pub returns : goal.returns
 returns c =
     let k = c.requires.0 in
@@ -61,3 +45,20 @@ returns c =
     (part_first c.pow2-half.result _ l.new.x _ (omega (arith, h, s, l.ensures.size, c.requires.3.size)) (omega arith) c.split_at-2.ensures.front)
     (part_second c.pow2-half.result _ l.new.x _ (omega (arith, h, s, l.ensures.size, c.requires.3.size)) (omega arith) c.split_at-2.ensures.back)
     t.ensures u.ensures _ _ _ c.winner_of.ensures
+
+pub difference_tally-u-requires : goal.difference_tally-u-requires
+difference_tally-u-requires c =
+    let k = c.requires.0 in
+    let n = c.pow2.ensures in
+    let h = c.pow2-half.ensures in
+    let s = few _ _ _ k _ n in
+    let y = code_within _ _ _ k _ n _ _ c.requires.3 c.load.ensures in
+    let x2 = part_second c.pow2-half.result _ c.args.x.now _ (omega (arith, h, s)) (omega arith) c.split_at.ensures.back in
+    let y2 = part_second c.pow2-half.result _ c.load.new.x _ (omega (arith, h, s, c.load.ensures.size, c.requires.3.size)) (omega arith) c.split_at-2.ensures.back in (
+      k.alphabet,
+      part_below _ _ _ _ _ x2 (omega (arith, h, s)) c.requires.2,
+      part_below _ _ _ _ _ y2 (omega (arith, h, s)) y,
+      c.requires.1,
+      omega (arith, x2.size, y2.size),
+      omega (arith, x2.size, h, s),
+    )

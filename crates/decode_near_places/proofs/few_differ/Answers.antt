@@ -8,7 +8,7 @@ use Rattle.decode_near_places.proofs.few_differ.Goals as goal
 use Rattle.decode_near_places.proofs.few_differ.Goals.{then-found-ne0+else-wrong-quarter, else-found-ne0}
 
 pub loop-i-init : goal.loop-i-init
-loop-i-init c = (omega arith, omega arith, omega arith, none_yet _ _)
+loop-i-init c = (omega arith, omega arith, omega arith, none_yet _ _ 0)
 
 pub loop-i-preserved : goal.loop-i-preserved
 loop-i-preserved c =

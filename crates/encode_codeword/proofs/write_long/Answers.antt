@@ -4,7 +4,7 @@ use Rattle.encode_codeword.proofs.Doubling.{fits_less, length_so_far, grow_asks,
 use Rattle.encode_codeword.proofs.write_long.Goals as goal
 
 pub write_each_of_64-requires : goal.write_each_of_64-requires
-write_each_of_64-requires g c = fits_less _ _ 6 _ _ _ (omega arith) (omega arith) refl c.requires.0
+write_each_of_64-requires g c = fits_less _ _ _ _ _ _ (omega arith) (omega arith) refl c.requires.0
 
 pub double_each-requires : goal.double_each-requires
 double_each-requires g c =

@@ -38,7 +38,7 @@ any_size-requires g c =
     let s = c.args in
     let w = c.rows-rows.ensures in
     let group : is_group s.count ≡ true = sym c.is_group.ensures ∙ asked_yes c.in_ok-ask.field-0 _ 13 c.in_ok-ask.ensures in
-    (c.requires, any_limit s.q 4 s.count _ _ _ _ w.0 w.1 (g.met.W.Way.whole s.count 16) sixteen_places group)
+    (c.requires, any_limit s.q 4 s.count _ _ _ _ w.0 w.1 (g.met.W.Way.whole _ _ ∙ omega arith) sixteen_places group)
 
 pub returns : goal.returns
 unfolding refusal

@@ -1,5 +1,6 @@
 -- `feed` meets its contract.
 use Rattle.std.proofs.Common.{rules, tests, arith}
+use Rattle.text_chunks.specs.Kept.{kept_bytes}
 use Rattle.text_chunks.proofs.PartLaws.{remaining, remaining_length, run_none, run_more, run_done}
 use Rattle.list_stream.specs.Stream.{reader, progress}
 use Rattle.text_chunks.proofs.CountLaws.{count_over, count_full}
@@ -28,4 +29,4 @@ pub returns-else-not-fed-clause-read : goal.returns-else-not-fed-clause-read
 unfolding progress
 returns-else-not-fed-clause-read c =
     let l = c.loop-fed in
-    run_done reader _ _ _ l.fed.read _ _ _ l.invariant.0 l.invariant.2 (count_over reader (progress l.fed.lister l.line) _ _ (search (rules, tests)))
+    run_done reader _ _ _ l.fed.read _ _ _ l.invariant.0 l.invariant.2 (count_over reader (progress l.fed.lister (kept_bytes l.line)) _ _ (search (rules, tests)))

@@ -7,6 +7,7 @@ use lib.Seq.{length-take-le}
 use Rattle.text_lines.specs.Line.{slot, word_of}
 use Rattle.text_lines.proofs.EndingLaws.{slot_ends}
 use Rattle.text_chunks.proofs.LineLaws.{slot_line}
+use Rattle.text_chunks.specs.Kept.{kept_bytes}
 use Rattle.list_stream.proofs.StreamLaws.{line_fit, reads_line}
 use Rattle.list_stream.proofs.read_line.Goals as goal
 
@@ -31,7 +32,7 @@ returns-then-has_slot c =
     let yes = sym c.has_slot.ensures ∙ c.if-has_slot.true in
     let f = slot_ends a.bytes.now yes in
     let e = c.list_slot.ensures in
-    let none : a.line.now ≡ [] = search rules in
-    reads_line a.lister a.line.now a.bytes.now a.out.now a.at c.requires (slot (word_of (take 16 a.bytes.now)))
-    c.list_slot.result 17 _ _ _ none (omega (arith, f.1)) (omega (arith, f.0, f.1)) (slot_line a.line.now a.bytes.now none yes)
+    let none : kept_bytes a.line.now ≡ [] = search rules in
+    reads_line a.lister (kept_bytes a.line.now) a.bytes.now a.out.now a.at c.requires (slot (word_of (take 16 a.bytes.now)))
+    c.list_slot.result 17 _ _ _ none (omega (arith, f.1)) (omega (arith, f.0, f.1)) (slot_line (kept_bytes a.line.now) a.bytes.now none yes)
     e.session e.ends (record { place = e.place; buffer = e.buffer }) c.after_line.ensures

@@ -8,6 +8,7 @@ use Rattle.text_lines.specs.Line.{miss, read_line}
 use Rattle.text_lines.proofs.EndingLaws.{line_within, miss_ends}
 use Rattle.text_chunks.specs.Internal.{keep_all}
 use Rattle.text_chunks.proofs.LineLaws.{miss_line}
+use Rattle.text_chunks.specs.Kept.{kept_bytes}
 use Rattle.list_stream.proofs.StreamLaws.{line_fit, reads_line, reads_part}
 use Rattle.list_stream.proofs.read_part.Goals as goal
 
@@ -21,9 +22,9 @@ returns-then-has_miss c =
     let yes = sym c.has_miss.ensures ∙ c.if-has_miss.true in
     let f = miss_ends c.line_length-n.result a.bytes.now c.line_length-n.ensures yes in
     let e = c.list_miss.ensures in
-    let none : a.line.now ≡ [] = search rules in
-    let line = miss_line a.line.now a.bytes.now c.line_length-n.result none c.line_length-n.ensures yes in
-    reads_line a.lister a.line.now a.bytes.now a.out.now a.at c.requires miss c.list_miss.result 2 _ _ _ none
+    let none : kept_bytes a.line.now ≡ [] = search rules in
+    let line = miss_line (kept_bytes a.line.now) a.bytes.now c.line_length-n.result none c.line_length-n.ensures yes in
+    reads_line a.lister (kept_bytes a.line.now) a.bytes.now a.out.now a.at c.requires miss c.list_miss.result 2 _ _ _ none
     (omega (arith, f.2)) (omega (arith, f.0, f.1, f.2)) line
     e.session e.ends (record { place = e.place; buffer = e.buffer }) c.after_line.ensures
 
@@ -35,7 +36,7 @@ slice_bounds-keep-end c =
 pub returns-then-n-bytes : goal.returns-then-n-bytes
 returns-then-n-bytes c =
     let a = c.args in
-    reads_part a.lister a.line.now a.bytes.now a.out.now a.at c.requires c.keep.new.self c.line_length-n.result c.line_length-n.ensures c.if-n-bytes.true c.keep.ensures
+    reads_part a.lister (kept_bytes a.line.now) a.bytes.now a.out.now a.at c.requires (kept_bytes c.keep.new.self) c.line_length-n.result c.line_length-n.ensures c.if-n-bytes.true c.keep.ensures
 
 pub overflow_add-n : goal.overflow_add-n
 overflow_add-n c =
@@ -50,7 +51,7 @@ returns c =
     let a = c.args in
     let e = c.list_line-listed.ensures in
     let l = c.line_length-n.ensures in
-    let kept = c.as_slice.ensures ∙ c.keep.ensures ∙ ap (λ m. keep_all a.line.now (take m a.bytes.now)) l in
-    reads_line a.lister a.line.now a.bytes.now a.out.now a.at c.requires _ c.list_line-listed.result _ _ _ _ c.clear.ensures
-    (omega (arith, l)) (omega (arith, l, c.if-n-bytes.false, line_within a.bytes.now)) (ap read_line (sym kept))
+    let line = c.as_slice.ensures ∙ c.keep.ensures ∙ ap (λ m. keep_all (kept_bytes a.line.now) (take m a.bytes.now)) l in
+    reads_line a.lister (kept_bytes a.line.now) a.bytes.now a.out.now a.at c.requires _ c.list_line-listed.result _ _ _ _ (ap kept_bytes c.clear.ensures)
+    (omega (arith, l)) (omega (arith, l, c.if-n-bytes.false, line_within a.bytes.now)) (ap read_line (sym line))
     e.session e.ends (record { place = e.place; buffer = e.buffer }) c.after_line-2.ensures

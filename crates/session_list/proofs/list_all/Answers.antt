@@ -11,7 +11,7 @@ loop-init c =
     let r = c.read-place.ensures in
     record {
       fit = record { alphabet = ap (λ r. r.q) e.0; variables = ap (λ r. r.m) e.0 };
-      room = c.requires;
+      room = c.requires.1;
       got = r.0;
       at = omega (arith, r.1);
     }

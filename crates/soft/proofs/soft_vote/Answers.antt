@@ -19,7 +19,7 @@ sums-requires c = (vote_accepted _ _ _ _ (sym c.in-Ok.ensures)).1
 
 pub returns-in-Ok : goal.returns-in-Ok
 unfolding refusal
-returns-in-Ok c = c.vote.ensures ∙ vote_given _ _ _ _ c.in-Ok.ensures _ c.sums.ensures
+returns-in-Ok c = c.decision.ensures ∙ vote_given _ _ _ _ c.in-Ok.ensures _ c.sums.ensures
 
 pub returns-in-Err : goal.returns-in-Err
 unfolding refusal voted

@@ -2,7 +2,7 @@
 -- one more.
 use mathlib.Core.Path.{◌∙◌}
 use native.Mathlib.Omega.{arith}
-use Rattle.soft_all_sums.proofs.RowLaws.{sums_zero, stored_none, stored_next, sums_more, held_is, half_places, all_few, all_of}
+use Rattle.soft_all_sums.proofs.RowLaws.{sums_zero, stored_none, stored_next, sums_more, held_is, votes_as, half_places, all_few, all_of}
 use Rattle.soft_all_sums.proofs.few_sums.Goals as goal
 
 pub loop-j-init : goal.loop-j-init
@@ -17,13 +17,15 @@ more-requires g c =
       omega arith,
       let h = half_places c.args.samples.m g.row.N c.pow2-j-end.result c.requires.0 c.requires.2 c.pow2-j-end.ensures in
           omega (arith, h, c.args.samples.reals),
-      held_is c.loop-k.few k _ (omega (arith, c.loop-k.invariant.1.size, c.args.samples.high))
-          ∙ c.loop-k.invariant.1.rest k (omega arith) ∙ c.loop-j.invariant.1.each k (omega arith) (omega arith),
+      votes_as _ _ _ k _ _ (omega arith)
+          (held_is c.loop-k.few k _ (omega (arith, c.loop-k.invariant.1.size, c.args.samples.high))
+          ∙ c.loop-k.invariant.1.rest k (omega arith) ∙ c.loop-j.invariant.1.each k (omega arith) (omega arith)),
     )
 
 pub loop-k-preserved : goal.loop-k-preserved
 loop-k-preserved g c =
-    (omega arith, stored_next _ _ _ c.loop-k.few c.loop-k.k _ (omega (arith, c.args.samples.high)) c.loop-k.invariant.1 c.more.ensures)
+    let k = c.loop-k.k in
+    (omega arith, stored_next _ _ _ c.loop-k.few k _ (omega (arith, c.args.samples.high)) c.loop-k.invariant.1 (votes_as _ _ _ _ k _ (omega arith) c.more.ensures))
 
 pub loop-j-preserved : goal.loop-j-preserved
 loop-j-preserved g c =

@@ -2,7 +2,7 @@
 use Rattle.std.proofs.Common.{refl, ap, ◌∙◌, Err}
 use Rattle.code_questions.specs.Internal.{refusal}
 use Rattle.code_questions.proofs.RefusalLaws.{doubtful_number, stopped, passed}
-use Rattle.session_receiver.specs.Receiving.{received, received_values, received_session}
+use Rattle.session_receiver.specs.Receiving.{received, received_values, received_session, next_receiver}
 use Rattle.session_receiver.proofs.SoundLaws.{miss_yes}
 use Rattle.session_receiver.proofs.CallLaws.{receive_stopped, word_refused, word_doubtful, word_deliverable, word_read}
 use Rattle.session_receiver.proofs.Receiver.receive.Goals as goal
@@ -27,10 +27,10 @@ returns-in-Ok c =
     record { answer = a; session = b; buffer = d }
 
 pub returns-in-Doubtful : goal.returns-in-Doubtful
-unfolding received received_values received_session
+unfolding received received_values received_session next_receiver
 returns-in-Doubtful c =
     let (a, b, d) = word_doubtful _ _ _ (passed _ _ c.in_ok-ask_slot.ensures) _ _ c.in-Err.ensures.answer c.in-Err.ensures.buffer (ap Err c.in-Doubtful.is) in
-    record { answer = a; session = c.next.ensures ∙ b; buffer = d }
+    record { answer = a; session = rw c.next.ensures b; buffer = d }
 
 pub returns-in_default : goal.returns-in_default
 unfolding received received_session

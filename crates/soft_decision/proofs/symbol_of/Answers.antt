@@ -1,0 +1,16 @@
+-- `symbol_of` meets its contract, case by case.
+use Rattle.soft_theory.specs.Decision.{symbol}
+use Rattle.soft_decision.specs.Voted.{voted}
+use Rattle.soft_decision.proofs.symbol_of.Goals as goal
+
+pub returns-in-Sure : goal.returns-in-Sure
+unfolding symbol voted
+returns-in-Sure c = rw c.in-Sure.is
+
+pub returns-in-Unsure : goal.returns-in-Unsure
+unfolding symbol voted
+returns-in-Unsure c = rw c.in-Unsure.is
+
+pub returns-in-Refused : goal.returns-in-Refused
+unfolding symbol voted
+returns-in-Refused c = rw c.in-Refused.is
