@@ -1,1 +1,2 @@
+pub mod CounterLaws
 pub mod WinnerLaws

@@ -6,16 +6,12 @@ use native.Mathlib.Decide.{dec_lt}
 use native.Mathlib.Numerals.{add-one}
 use native.Mathlib.Omega.{arith}
 use native.Mathlib.Nat.{zero-div, eq-or-lt_of_le, le_of_suc-le-suc}
-use mathlib.Core.List.{List}
-use Rattle.std.specs.Int.{w64, to_le_bytes}
-use Rattle.code_theory.specs.Sum.{at}
 use Rattle.code_theory.specs.Index.{if_clear}
 use Rattle.code_theory.specs.Margin.{most_other, lead}
 use Rattle.code_theory.proofs.ModularLaws.{same_eq, same_ne}
 use Rattle.code_theory.proofs.MarginLaws.{most_other_le, le_most_other, most_other_ext}
 use Rattle.swar_theory.specs.Internal.{digit}
 use Rattle.decode_long_tally.specs.Internal.{Counts}
-use Rattle.decode_long_tally.proofs.TallyLaws.{byte_digit}
 use Rattle.decode_long_winner.specs.Internal.{Leads, Updates, together}
 
 most_other_lem : (n s : ℕ) (f : ℕ → ℕ) → n ≢ s → most_other (suc n) s f ≡ max (most_other n s f) (f n)
@@ -81,11 +77,10 @@ pub leads_lead : (q : ℕ) (f : ℕ → ℕ) (s n o : ℕ) → Leads q f s n o �
 unfolding lead
 leads_lead q f s n o w = ap₂ (λ x y. x - y) w.own w.other
 
--- the counters of two tallies, read as their bytes
-pub together_is : (t u : ℕ) (ts us : List ℕ) (v a b : ℕ) → v < 8 → ts ≡ to_le_bytes w64 t → us ≡ to_le_bytes w64 u → a ≡ at ts v → b ≡ at us v → a + b ≡ together t u v
+-- the counters of two tallies
+pub together_is : (t u v a b : ℕ) → a ≡ digit 8 t v → b ≡ digit 8 u v → a + b ≡ together t u v
 unfolding together
-together_is t u ts us v a b l et eu e f =
-    ap₂ (λ x y. x + y) (e ∙ ap (λ z. at z v) et ∙ byte_digit t v l) (f ∙ ap (λ z. at z v) eu ∙ byte_digit u v l)
+together_is t u v a b e f = ap₂ (λ x y. x + y) e f
 
 -- a single tally
 pub alone : (q t : ℕ) (f : ℕ → ℕ) (s n o : ℕ) → Counts q t f → Leads q (together t 0) s n o → Leads q f s n o

@@ -1,8 +1,8 @@
 -- The places that a doubling fills, and the words that it makes. Assumes nothing.
-use Prim.Native.Nat.{ℕ, suc, ◌+◌, ◌*◌, ◌-◌, ◌%◌, ◌^◌, ◌≤◌, ◌<◌}
-use mathlib.Core.Path.{◌≡◌, ap, sym, ◌∙◌, subst}
+use Prim.Native.Nat.{ℕ, zero, suc, ◌+◌, ◌*◌, ◌-◌, ◌%◌, ◌^◌, ◌≤◌, ◌<◌}
+use mathlib.Core.Path.{◌≡◌, refl, ap, sym, ◌∙◌, subst}
 use mathlib.Core.Bool.{true}
-use mathlib.Core.List.{List, ◌++◌}
+use mathlib.Core.List.{List, [], ◌∷◌, ◌++◌}
 use native.Mathlib.Numerals.{add-one}
 use native.Mathlib.Decide.{dec_lt}
 use native.Mathlib.Omega.{arith}
@@ -161,3 +161,17 @@ unreduced_none s i = omega arith
 pub unreduced_next : (s : List ℕ) (k i y x : ℕ) → k < 6 → y ≡ unreduced k (at s) i → x ≡ at (mid_of 1 6 s) k * bit k i → y + x ≡ unreduced (k + 1) (at s) i
 unfolding unreduced linear sum
 unreduced_next s k i y x h e f = rw add-one (omega (arith, e, f ∙ ap (λ z. z * bit k i) (coefficient s k h)))
+
+-- the seven symbols of six coefficients, read one by one
+abbrev pub seven_of : List ℕ → List ℕ
+seven_of l = at l 0 ∷ at l 1 ∷ at l 2 ∷ at l 3 ∷ at l 4 ∷ at l 5 ∷ at l 6 ∷ []
+
+pub seven_read : (l : List ℕ) (k : ℕ) → k < 7 → at (seven_of l) k ≡ at l k
+seven_read l zero h = refl
+seven_read l (suc zero) h = refl
+seven_read l (suc (suc zero)) h = refl
+seven_read l (suc (suc (suc zero))) h = refl
+seven_read l (suc (suc (suc (suc zero)))) h = refl
+seven_read l (suc (suc (suc (suc (suc zero))))) h = refl
+seven_read l (suc (suc (suc (suc (suc (suc zero)))))) h = refl
+seven_read l (suc (suc (suc (suc (suc (suc (suc k))))))) h = absurd (omega arith)

@@ -124,12 +124,14 @@ fn write_8(q: u32, message: &[u8], word: &mut [u8])
 }
 
 // Writes 64 places from 6 coefficients, each place from the bits of its index. The symbols are read before any place is written, so that
-// they can stay in registers.
+// they can stay in registers, and one by one: the compiler then takes what question 6 has read already, and does not read it again.
 fn write_each_of_64(q: u32, message: &[u8], word: &mut [u8])
     requires { Fits q 6 message.now word.old }
     ensures { Written q 6 message.now word.old word.new }
 {
-    let s: [u8; 7] = message[..7].try_into().unwrap();
+    let s = [
+        message[0], message[1], message[2], message[3], message[4], message[5], message[6],
+    ];
     let (first, _) = word.split_at_mut(64);
     for (i, x) in first.iter_mut().enumerate() {
         *x = remainder(q, place(i as u8, &s));

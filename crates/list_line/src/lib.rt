@@ -79,7 +79,8 @@ fn put_reading(rate: u8, delivery: Delivery, out: &mut [u8], at: usize) -> usize
     text_buffer::put_field(delivery.margin, b'\n', out, fifth)
 }
 
-// Lists a word: its slot is read or doubtful, or the session is full. The message slice is room for Receive.
+// Lists a word: its slot is read or doubtful, or the session is full. The message slice is room for Receive. The refusal is told
+// first: of a match within a match the compiler copied the unused bytes of a `Listed` twice, each copy waiting for stores just before it.
 fn list_word(
     receiver: Receiver,
     word: &[u8],
@@ -93,26 +94,26 @@ fn list_word(
     ensures place { result.next ≡ at + length (line_text receiver (L.slot word.now)) }
     ensures buffer { out.new ≡ put out.old at (line_text receiver (L.slot word.now)) }
 {
-    match receiver.receive(message, word) {
-        Ok(received) => match received.delivery {
-            Some(delivery) => {
-                let rate = strap::rate_of(message);
-                Listed {
-                    receiver: received.receiver,
-                    next: put_reading(rate, delivery, out, at),
-                    over: false,
-                }
-            }
-            None => Listed {
-                receiver: received.receiver,
-                next: put_event(session::slot_time(receiver.used), b"doubtful\n", out, at),
-                over: false,
-            },
-        },
-        Err(_) => Listed {
+    let Ok(received) = receiver.receive(message, word) else {
+        return Listed {
             receiver,
             next: text_buffer::put_text(b"over\n", out, at),
             over: true,
+        };
+    };
+    match received.delivery {
+        Some(delivery) => {
+            let rate = strap::rate_of(message);
+            Listed {
+                receiver: received.receiver,
+                next: put_reading(rate, delivery, out, at),
+                over: false,
+            }
+        }
+        None => Listed {
+            receiver: received.receiver,
+            next: put_event(session::slot_time(receiver.used), b"doubtful\n", out, at),
+            over: false,
         },
     }
 }

@@ -1,7 +1,7 @@
 // The strap's message, q = 4, m = 4: a rate of 0 to 255 beats per minute in the four coefficients, and a zone of 0 to 3.
 #![tactic(auto)]
 
-ghost use Rattle.std.specs.Prelude.{◌≡◌};
+ghost use Rattle.std.specs.Prelude.{◌≡◌, length};
 ghost use Rattle.code_questions.specs.Internal.{refusal};
 ghost use Rattle.code_questions.specs.Refusal.{answered, no_values};
 ghost use Rattle.strap.specs.Strap.{rate_of, pack_refusal, pack_answer, pack_message, unpack_refusal, unpack_answer, report_values};
@@ -15,13 +15,29 @@ pub struct Report {
     pub zone: u8,
 }
 
+// Stores the five symbols one by one: copy_from_slice would lay them beside, ask whether the two overlap, and read them back.
+fn store(message: &mut [u8], symbols: [u8; 5])
+    requires { length message.old ≡ 5 }
+    ensures { message.new ≡ symbols }
+{
+    let [zone, a0, a1, a2, a3] = symbols;
+    message[0] = zone;
+    message[1] = a0;
+    message[2] = a1;
+    message[3] = a2;
+    message[4] = a3;
+}
+
 // Fills the message with the rate and the zone (docs/REQUIREMENTS.md: Pack).
 pub fn pack(message: &mut [u8], rate: u8, zone: u8) -> Result<(), Refusal>
     ensures answer { answered no_values result ≡ pack_answer message.old zone }
     ensures buffer { message.new ≡ pack_message message.old rate zone }
 {
     ask_pack(message, zone)?;
-    message.copy_from_slice(&[zone, rate % 4, rate / 4 % 4, rate / 16 % 4, rate / 64 % 4]);
+    store(
+        message,
+        [zone, rate % 4, rate / 4 % 4, rate / 16 % 4, rate / 64 % 4],
+    );
     Ok(())
 }
 

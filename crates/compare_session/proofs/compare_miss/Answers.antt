@@ -1,5 +1,5 @@
 -- `compare_miss` meets its contract: the number for each answer of miss, and the session in the slice.
-use Rattle.std.proofs.Common.{length, ap, sym, ◌∙◌}
+use Rattle.std.proofs.Common.{ap, ◌∙◌}
 use Rattle.code_theory.proofs.QuestionLaws.{number_yes, number_no}
 use Rattle.code_questions.specs.Refusal.{answered}
 use Rattle.session_receiver.specs.Receiving.{miss_answer, miss_session, missed_session}
@@ -10,8 +10,8 @@ use Rattle.compare_session.proofs.compare_miss.Goals as goal
 pub returns-in_default-clause-session : goal.returns-in_default-clause-session
 returns-in_default-clause-session c = by_same _ _ _ (receiver_kept _ (not_found _ _ c.in_default.ensures) _)
 
-pub copy_from_slice-requires : goal.copy_from_slice-requires
-copy_from_slice-requires c = is_four_lem _ (found _ _ _ c.in-Some.ensures).0 ∙ sym (ap length c.receiver_numbers.ensures)
+pub put-requires : goal.put-requires
+put-requires c = is_four_lem _ (found _ _ _ c.in-Some.ensures).0
 
 pub returns-in-Ok : goal.returns-in-Ok
 unfolding answered missed_session
@@ -23,7 +23,7 @@ returns-in-Ok c =
     record {
       answer = number_yes _ _ answer ∙ cond_yes _ _ _ four;
       session =
-          c.copy_from_slice.ensures.after ∙ c.receiver_numbers.ensures ∙ receiver_put _ four _ ∙ ap (λ t. with_receiver t l) (e.session ∙ ap miss_session s)
+          c.put.ensures ∙ c.receiver_numbers.ensures ∙ receiver_put _ four _ ∙ ap (λ t. with_receiver t l) (e.session ∙ ap miss_session s)
           ∙ by_yes _ _ _ _ answer;
     }
 

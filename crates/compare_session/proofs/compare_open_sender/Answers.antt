@@ -18,7 +18,7 @@ returns-in-Ok c =
     let e = c.in-Ok.ensures in
     record {
       answer = number_yes _ _ e.answer ∙ cond_yes _ _ _ h;
-      session = c.copy_from_slice.ensures.after ∙ c.sender_numbers.ensures ∙ sender_put _ h _ ∙ opened_yes _ _ _ _ e.session;
+      session = c.put.ensures ∙ c.sender_numbers.ensures ∙ sender_put _ h _ ∙ opened_yes _ _ _ _ e.session;
     }
 
 pub returns-in-Err : goal.returns-in-Err

@@ -1,5 +1,5 @@
 -- `compare_receive` meets its contract: the numbers of a delivery are its values, and a refusal that leaves the session is not 9.
-use Rattle.std.proofs.Common.{length, ap, sym, ◌∙◌}
+use Rattle.std.proofs.Common.{ap, sym, ◌∙◌}
 use Rattle.code_theory.proofs.QuestionLaws.{number_yes, number_no}
 use Rattle.session_receiver.specs.Receiving.{receive_answer, receive_session, receive_message, received, received_values, received_session}
 use Rattle.compare_session.specs.Internal.{with_receiver}
@@ -11,8 +11,8 @@ returns-then-delivery-ne4 c =
     let no = second_no _ _ (found _ _ _ c.in-Some.ensures).0 (is_four_no _ c.if-delivery-ne4.true) in
     record { answer = cond_no _ _ _ no; session = cond_no _ _ _ no; delivery = cond_no _ _ _ no; buffer = cond_no _ _ _ no }
 
-pub copy_from_slice-requires : goal.copy_from_slice-requires
-copy_from_slice-requires c = is_four_lem _ (found _ _ _ c.in-Some.ensures).0 ∙ sym (ap length c.receiver_numbers.ensures)
+pub put-requires : goal.put-requires
+put-requires c = is_four_lem _ (found _ _ _ c.in-Some.ensures).0
 
 pub returns-in-Some-delivery : goal.returns-in-Some-delivery
 unfolding received received_values received_session
@@ -28,11 +28,11 @@ returns-in-Some-delivery c =
     record {
       answer = number_yes _ _ answer ∙ cond_yes _ _ _ both;
       session =
-          c.copy_from_slice.ensures.after ∙ c.receiver_numbers.ensures ∙ receiver_put _ four _
+          c.put.ensures ∙ c.receiver_numbers.ensures ∙ receiver_put _ four _
           ∙ ap (λ t. with_receiver t l) (e.session ∙ ap (λ t. receive_session t message word) s)
           ∙ use_yes _ _ _ _ answer ∙ cond_yes _ _ _ both;
       delivery =
-          c.copy_from_slice-in-Some-delivery.ensures.after ∙ c.delivery_numbers.ensures ∙ delivery_put _ delivery _ ∙ delivered _ _ ∙ answer_yes _ _ _ answer ∙ cond_yes _ _ _ both;
+          c.put-in-Some-delivery.ensures ∙ c.delivery_numbers.ensures ∙ delivery_put _ delivery _ ∙ delivered _ _ ∙ answer_yes _ _ _ answer ∙ cond_yes _ _ _ both;
       buffer = e.buffer ∙ ap (λ t. receive_message t message word) s ∙ cond_yes _ _ _ both;
     }
 
@@ -49,7 +49,7 @@ returns-in-None c =
     record {
       answer = c.into.ensures ∙ number_no _ _ answer ∙ cond_yes _ _ _ both;
       session =
-          c.copy_from_slice.ensures.after ∙ c.receiver_numbers.ensures ∙ receiver_put _ four _
+          c.put.ensures ∙ c.receiver_numbers.ensures ∙ receiver_put _ four _
           ∙ ap (λ t. with_receiver t l) (e.session ∙ ap (λ t. receive_session t message word) s)
           ∙ use_doubt _ _ _ answer ∙ cond_yes _ _ _ both;
       delivery = answer_no _ _ _ answer ∙ cond_yes _ _ _ both;

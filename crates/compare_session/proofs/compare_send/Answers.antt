@@ -1,5 +1,5 @@
 -- `compare_send` meets its contract: the number for each answer of send, and the session in the slice.
-use Rattle.std.proofs.Common.{length, ap, sym, ◌∙◌}
+use Rattle.std.proofs.Common.{ap, ◌∙◌}
 use Rattle.code_theory.proofs.QuestionLaws.{number_yes, number_no}
 use Rattle.code_questions.specs.Refusal.{answered}
 use Rattle.session_sender.specs.Sending.{send_answer, send_session, send_word, sent_session}
@@ -10,8 +10,8 @@ use Rattle.compare_session.proofs.compare_send.Goals as goal
 pub returns-in_default-clause-session : goal.returns-in_default-clause-session
 returns-in_default-clause-session c = by_same _ _ _ (sender_kept _ (not_found _ _ c.in_default.ensures) _)
 
-pub copy_from_slice-requires : goal.copy_from_slice-requires
-copy_from_slice-requires c = is_four_lem _ (found _ _ _ c.in-Some.ensures).0 ∙ sym (ap length c.sender_numbers.ensures)
+pub put-requires : goal.put-requires
+put-requires c = is_four_lem _ (found _ _ _ c.in-Some.ensures).0
 
 pub returns-in-Ok : goal.returns-in-Ok
 unfolding answered sent_session
@@ -25,7 +25,7 @@ returns-in-Ok c =
     record {
       answer = number_yes _ _ answer ∙ cond_yes _ _ _ four;
       session =
-          c.copy_from_slice.ensures.after ∙ c.sender_numbers.ensures ∙ sender_put _ four _
+          c.put.ensures ∙ c.sender_numbers.ensures ∙ sender_put _ four _
           ∙ ap (λ t. with_sender t l) (e.session ∙ ap (λ t. send_session t message word) s)
           ∙ by_yes _ _ _ _ answer;
       buffer = e.buffer ∙ ap (λ t. send_word t message word) s ∙ cond_yes _ _ _ four;

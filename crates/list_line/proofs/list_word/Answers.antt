@@ -36,11 +36,11 @@ returns-in-None c =
     (told_doubtful c.args.receiver _ _ _ c.requires.1 e.answer e.session _ c.in-Ok.is c.in-None.is)
     (written_as (doubtful_pieces _ ∙ ap doubtful_text c.slot_time.ensures) (record { place = w.place; buffer = w.buffer }))
 
-pub returns-in-Err : goal.returns-in-Err
+pub returns-in_default : goal.returns-in_default
 unfolding over_text spaced bytes
-returns-in-Err c =
+returns-in_default c =
     let e = c.receive.ensures in
     let w = c.put_text.ensures in
     listed_as c.args.receiver _ _ _ _ c.args.out.now c.args.at _ _
-    (told_over c.args.receiver _ _ _ c.requires.1 e.answer e.session _ c.in-Err.is)
+    (told_over c.args.receiver _ _ _ c.requires.1 e.answer e.session _ c.in_default.is)
     (record { place = w.place; buffer = w.buffer })

@@ -12,11 +12,11 @@ returns-in_err-ask_pack c =
     let e = c.in_err-ask_pack.ensures in
     record { answer = stopped_answer _ _ _ e _ _ _ c.from_residual.ensures.1; buffer = stopped_after _ _ _ e _ _ }
 
-pub copy_from_slice-requires : goal.copy_from_slice-requires
-copy_from_slice-requires c = (packable _ _ (passed _ _ c.in_ok-ask_pack.ensures)).0
+pub store-requires : goal.store-requires
+store-requires c = (packable _ _ (passed _ _ c.in_ok-ask_pack.ensures)).0
 
 pub returns : goal.returns
 unfolding pack_answer pack_message no_values
 returns c =
     let e = c.in_ok-ask_pack.ensures in
-    record { answer = passed_answer _ _ e _ _ _ refl; buffer = (c.copy_from_slice.ensures.after ∙ stored _ _) ∙ passed_after _ _ e _ _ }
+    record { answer = passed_answer _ _ e _ _ _ refl; buffer = (c.store.ensures ∙ stored _ _) ∙ passed_after _ _ e _ _ }
