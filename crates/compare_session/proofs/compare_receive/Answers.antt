@@ -3,7 +3,7 @@ use Rattle.std.proofs.Common.{ap, sym, ◌∙◌}
 use Rattle.code_theory.proofs.QuestionLaws.{number_yes, number_no}
 use Rattle.session_receiver.specs.Receiving.{receive_answer, receive_session, receive_message, received, received_values, received_session}
 use Rattle.compare_session.specs.Internal.{with_receiver}
-use Rattle.compare_session.proofs.AnswerLaws.{is_four_yes, is_four_no, is_four_lem, both_four, second_no, found, cond_yes, cond_no, receiver_put, delivery_put, delivered, use_yes, use_doubt, use_no, answer_yes, answer_no}
+use Rattle.compare_session.proofs.AnswerLaws.{is_four_yes, is_four_no, is_four_lem, both_four, second_no, found, cond_yes, cond_no, receiver_put, delivery_put, use_yes, use_doubt, use_no, answer_yes, answer_no}
 use Rattle.compare_session.proofs.compare_receive.Goals as goal
 
 pub returns-then-delivery-ne4 : goal.returns-then-delivery-ne4
@@ -32,7 +32,7 @@ returns-in-Some-delivery c =
           ∙ ap (λ t. with_receiver t l) (e.session ∙ ap (λ t. receive_session t message word) s)
           ∙ use_yes _ _ _ _ answer ∙ cond_yes _ _ _ both;
       delivery =
-          c.put-in-Some-delivery.ensures ∙ c.delivery_numbers.ensures ∙ delivery_put _ delivery _ ∙ delivered _ _ ∙ answer_yes _ _ _ answer ∙ cond_yes _ _ _ both;
+          c.put-in-Some-delivery.ensures ∙ c.delivery_numbers.ensures ∙ delivery_put _ delivery _ ∙ answer_yes _ _ _ answer ∙ cond_yes _ _ _ both;
       buffer = e.buffer ∙ ap (λ t. receive_message t message word) s ∙ cond_yes _ _ _ both;
     }
 
