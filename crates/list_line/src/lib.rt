@@ -79,8 +79,8 @@ fn put_reading(rate: u8, delivery: Delivery, out: &mut [u8], at: usize) -> usize
     text_buffer::put_field(delivery.margin, b'\n', out, fifth)
 }
 
-// Lists a word: its slot is read or doubtful, or the session is full. The message slice is room for Receive. The refusal is told
-// first: of a match within a match the compiler copied the unused bytes of a `Listed` twice, each copy waiting for stores just before it.
+// Lists a word: its slot is read or doubtful, or the session is full. The message slice is room for Receive. The refusal is told first: of
+// a match within a match the compiler copied the unused bytes of a `Listed` twice, each copy waiting for stores just before it.
 fn list_word(
     receiver: Receiver,
     word: &[u8],

@@ -38,6 +38,13 @@ pub slot_size : (line : List ℕ) → is_slot line ≡ true → length line ≡ 
 unfolding is_slot
 slot_size line e = eqb-true (length line) 16 (and_true (eqb (length line) 16) (is_digits line) e).0
 
+-- so its first sixteen bytes are all of it
+pub slot_whole : (line : List ℕ) → is_slot line ≡ true → take 16 line ≡ line
+slot_whole line e = take_all 16 line (omega (arith, slot_size line e))
+
+pub slot_taken : (line : List ℕ) → is_slot line ≡ true → length (take 16 line) ≡ length line
+slot_taken line e = ap length (slot_whole line e)
+
 pub slot_digits : (line : List ℕ) → is_slot line ≡ true → is_digits line ≡ true
 unfolding is_slot
 slot_digits line e = (and_true (eqb (length line) 16) (is_digits line) e).1

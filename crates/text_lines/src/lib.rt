@@ -83,8 +83,8 @@ pub fn has_miss(n: usize, bytes: &[u8]) -> bool
 }
 
 // Fills the word with the symbols of a slot's digits. The word is written by its index, since the library's contracts say nothing of what a
-// zip over `iter_mut` leaves. `..16` leaves nothing out, but without it the compiler stores four digits at a time, and
-// whoever then reads eight of the word at once has to wait.
+// zip over `iter_mut` leaves. `..16` leaves nothing out, but without it the compiler stores four digits at a time, and whoever then reads
+// eight of the word at once has to wait.
 pub fn fill_word(line: &[u8], word: &mut [u8])
     requires { (is_slot line.now ≡ true) × (length word.old ≡ 16) }
     ensures { word.new ≡ word_of line.now }
